@@ -1,0 +1,9 @@
+pub mod Composable
+pub mod Tabulated
+pub mod Associative
+pub mod WholeTables
+pub mod Squares
+pub mod Rows
+pub mod Views
+pub mod Marks
+pub mod WorkedTables

@@ -1,0 +1,5 @@
+pub mod Tables
+pub mod Associativity
+pub mod Squares
+pub mod Faults
+pub mod Laws

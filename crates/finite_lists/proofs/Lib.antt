@@ -1,0 +1,4 @@
+pub mod Lists
+pub mod DistinctLists
+pub mod RisingLists
+pub mod FirstAnswers

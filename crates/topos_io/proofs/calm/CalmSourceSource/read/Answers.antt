@@ -1,0 +1,16 @@
+use Rattle.std.proofs.Common.{◌≡◌, ◌<◌, ◌≤◌, List, ℕ, length, take, drop, arith, sym, ◌∙◌}
+use Rattle.std.proofs.lemmas.Grind.{common_steps}
+use Rattle.topos_io.proofs.Parts.{read_on}
+use Rattle.topos_io.proofs.calm.CalmSourceSource.read.Goals as goal
+
+pub returns-clause-bytes : goal.returns-clause-bytes
+returns-clause-bytes c =
+    let bytes : List ℕ = c.self.inside.bytes.items in
+    let at : ℕ = c.self.inside.at in
+    let n : ℕ = c.min-n.result in
+    let into : List ℕ = c.args.into.now in
+    let some : 0 < n = grind (arith, common_steps) in
+    let fits : n ≤ length into = grind (arith, common_steps) in
+    let copied : c.copy_from_slice.new.self ≡ take n (drop at bytes) = grind (arith, common_steps) in
+    let left : n ≤ length (drop at bytes) = grind (arith, common_steps) in
+    (some, grind (arith, common_steps), sym c.self.view_is ∙ read_on at n bytes c.copy_from_slice.new.self (drop n into) copied left)

@@ -1,0 +1,13 @@
+pub mod formers
+pub mod Nodes
+pub mod Category
+pub mod Cover
+pub mod Values
+pub mod Types
+pub mod Forcing
+pub mod Laws
+pub mod Order
+pub mod Listed
+pub mod Faults
+pub mod Form
+pub mod Run

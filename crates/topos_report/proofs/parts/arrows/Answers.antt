@@ -1,0 +1,6 @@
+use Rattle.std.proofs.Common.{sym}
+use Rattle.topos_report.proofs.ValueParts.{arrows_of-other}
+use Rattle.topos_report.proofs.parts.arrows.Goals as goal
+
+pub returns-in_default : goal.returns-in_default
+returns-in_default c = sym (arrows_of-other c.args.v.now c.in_default.not-Sv)

@@ -1,0 +1,143 @@
+// Lines of refusals.
+ghost use Rattle.std.specs.Prelude.{◌≡◌, ◌++◌, codes, OnOk, option_copied};
+ghost use Rattle.topos_report.specs.Refusals.{functor_of, number_prefix, declared_functor, element_of, action_text, refusal_line};
+
+use crate::bytes::{push_bytes, push_number};
+use crate::names::{ends, push_element};
+use crate::values::push_arrows;
+use topos_model::{Doc, Fault, NoMemory, Stmt};
+
+#[tactic(auto, unfolding(crate::specs::Refusals::number_prefix))]
+fn push_number_prefix(out: &mut Vec<u8>, at: Option<u32>) -> Result<(), NoMemory>
+    ensures { OnOk result (out.new.items ≡ out.old.items ++ number_prefix at) }
+{
+    match at {
+        Some(k) => {
+            push_number(out, u64::from(k))?;
+            push_bytes(out, b" ")
+        }
+        None => Ok(()),
+    }
+}
+
+#[tactic(auto, unfolding(crate::specs::Refusals::functor_of))]
+fn statement_functor(stmt: Option<&Stmt>) -> Option<u32>
+    ensures { result ≡ functor_of (option_copied stmt.entry) }
+{
+    match stmt {
+        Some(Stmt::Presheaf { functor, .. }) => Some(*functor),
+        _ => None,
+    }
+}
+
+/// The functor that statement number k declares.
+#[tactic(auto, unfolding(crate::specs::Refusals::declared_functor))]
+fn functor_at(doc: &Doc, at: Option<u32>) -> Option<u32>
+    ensures { result ≡ declared_functor doc.now at }
+{
+    match at {
+        Some(k) => {
+            let i = k.saturating_sub(doc.site_len).saturating_sub(1);
+            statement_functor(doc.stmts.as_slice().get(i as usize))
+        }
+        None => None,
+    }
+}
+
+#[tactic(auto, unfolding(crate::specs::Refusals::element_of))]
+fn push_element_of(
+    out: &mut Vec<u8>,
+    doc: &Doc,
+    functor: Option<u32>,
+    c: u32,
+    x: u32,
+) -> Result<(), NoMemory>
+    ensures { OnOk result (out.new.items ≡ out.old.items ++ element_of doc.now functor c x) }
+{
+    match functor {
+        Some(functor) => push_element(out, doc, functor, c, x),
+        None => Ok(()),
+    }
+}
+
+fn push_refused(out: &mut Vec<u8>, at: Option<u32>, text: &[u8]) -> Result<(), NoMemory>
+    ensures { OnOk result (out.new.items ≡ out.old.items ++ (number_prefix at ++ codes "refused " ++ text.now)) }
+{
+    push_number_prefix(out, at)?;
+    push_bytes(out, b"refused ")?;
+    push_bytes(out, text)
+}
+
+#[tactic(auto, unfolding(crate::specs::Refusals::refusal_line))]
+fn push_not_built(out: &mut Vec<u8>, doc: &Doc, at: Option<u32>) -> Result<(), NoMemory>
+    ensures { OnOk result (out.new.items ≡ out.old.items ++ refusal_line doc.now at Fault.NotBuilt) }
+{
+    push_refused(out, at, b"11 not built")?;
+    push_bytes(out, b"\n")
+}
+
+#[tactic(auto, unfolding(crate::specs::Refusals::refusal_line))]
+fn push_not_associative(
+    out: &mut Vec<u8>,
+    doc: &Doc,
+    at: Option<u32>,
+    h: u32,
+    g: u32,
+    f: u32,
+) -> Result<(), NoMemory>
+    ensures { OnOk result (out.new.items ≡ out.old.items ++ refusal_line doc.now at (Fault.NotAssociative h g f)) }
+{
+    push_refused(out, at, b"33 not associative: ")?;
+    push_arrows(out, doc, &[h, g, f])?;
+    push_bytes(out, b"\n")
+}
+
+#[tactic(auto, unfolding(crate::specs::Refusals::action_text))]
+fn push_action(
+    out: &mut Vec<u8>,
+    doc: &Doc,
+    at: Option<u32>,
+    g: u32,
+    f: u32,
+    x: u32,
+) -> Result<(), NoMemory>
+    ensures { OnOk result (out.new.items ≡ out.old.items ++ action_text doc.now at g f x) }
+{
+    push_arrows(out, doc, &[g, f])?;
+    push_bytes(out, b", ")?;
+    push_element_of(out, doc, functor_at(doc, at), ends(doc, g).1, x)
+}
+
+#[tactic(auto, unfolding(crate::specs::Refusals::refusal_line))]
+fn push_not_functorial(
+    out: &mut Vec<u8>,
+    doc: &Doc,
+    at: Option<u32>,
+    g: u32,
+    f: u32,
+    x: u32,
+) -> Result<(), NoMemory>
+    ensures { OnOk result (out.new.items ≡ out.old.items ++ refusal_line doc.now at (Fault.NotFunctorial g f x)) }
+{
+    push_refused(out, at, b"52 not functorial: ")?;
+    push_action(out, doc, at, g, f, x)?;
+    push_bytes(out, b"\n")
+}
+
+/// The line of a refusal. Other refusals come with their statements, and have no line yet.
+#[tactic(auto, unfolding(crate::specs::Refusals::refusal_line))]
+pub fn push_refusal(
+    out: &mut Vec<u8>,
+    doc: &Doc,
+    at: Option<u32>,
+    fault: &Fault,
+) -> Result<(), NoMemory>
+    ensures { OnOk result (out.new.items ≡ out.old.items ++ refusal_line doc.now at fault.now) }
+{
+    match fault {
+        Fault::NotBuilt => push_not_built(out, doc, at),
+        Fault::NotAssociative { h, g, f } => push_not_associative(out, doc, at, *h, *g, *f),
+        Fault::NotFunctorial { g, f, x } => push_not_functorial(out, doc, at, *g, *f, *x),
+        _ => Ok(()),
+    }
+}

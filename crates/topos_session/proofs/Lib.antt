@@ -1,0 +1,13 @@
+pub mod TrivialCovers
+pub mod Restricted
+pub mod VariableElements
+pub mod PropositionalFormulas
+pub mod PropositionalForcing
+pub mod ForcedAlong
+pub mod TupleExtensions
+pub mod PushedTuples
+pub mod StatementForms
+pub mod DocumentForms
+pub mod StatementAnswers
+pub mod SessionSteps
+pub mod RunSteps

@@ -1,0 +1,4 @@
+pub mod Extensions
+pub mod Variables
+pub mod Progress
+pub mod Steps

@@ -1,0 +1,16 @@
+//! The run of a document: its site is checked, and its statements are answered one by one.
+#![tactic(auto)]
+
+mod answer;
+mod forcing;
+mod form;
+mod run;
+mod session;
+mod show;
+mod stop;
+mod variable;
+
+pub use run::{Run, run_document};
+pub use session::Session;
+pub use stop::{SiteStop, Stop};
+pub use variable::Variable;
