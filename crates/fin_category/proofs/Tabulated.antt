@@ -1,13 +1,11 @@
 -- Tables that a function of the pairs gives.
-use Rattle.std.proofs.Common.{◌≡◌, ℕ, ◌<◌, true, List, length, refl, sym, ap, subst, arith}
+use Rattle.std.proofs.Common.{◌≡◌, ℕ, ◌<◌, true, List, length, refl, sym, ap, subst}
 use Rattle.std.proofs.lemmas.Bool.{eqb-true, eq-eqb}
-use Rattle.std.specs.List.{range_with_len}
 use Rattle.finite_lists.specs.Members.{In}
 use Rattle.finite_lists.specs.Rising.{Rising}
-use Rattle.finite_lists.proofs.Lists.{In-map, In-map_from, In-filter, In-filter_from, map_same}
-use Rattle.finite_lists.proofs.DistinctLists.{In-range, In-range_from}
-use Rattle.topos_model.specs.Category.{Category, cod, compose, into, arrows}
-use Rattle.topos_model.specs.Laws.{IsInto, AreComposable, EntryBelow}
+use Rattle.finite_lists.proofs.Lists.{In-map, In-map_from, map_same}
+use Rattle.topos_model.specs.Category.{compose}
+use Rattle.topos_model.specs.Laws.{AreComposable, EntryBelow}
 use Rattle.topos_model.specs.Listed.{meet, composable}
 use Rattle.fin_category.specs.Tables.{tabulated, entry, category_of}
 use Rattle.fin_category.proofs.Composable.{In-composable, In-composable_from, composite-map, Rising-composable}

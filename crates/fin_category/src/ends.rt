@@ -6,8 +6,8 @@ ghost use Rattle.fin_category.specs.Tables.{ending_at, ending_at_each};
 use std::alloc::Global;
 use topos_model::{NoMemory, RawCat, Row};
 
-// The ends of all arrows, the identities first.
-pub(crate) fn all_ends(alloc: Global, raw: &RawCat) -> Result<Row<(u32, u32)>, NoMemory>
+/// The ends of all arrows, the identities first, in the order of the objects.
+pub fn all_ends(alloc: Global, raw: &RawCat) -> Result<Row<(u32, u32)>, NoMemory>
     ensures { IfOk result (λ ends. ends ≡ all_ends raw.now) }
 {
     let mut ends = Row::new(alloc);

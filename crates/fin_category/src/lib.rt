@@ -11,6 +11,7 @@ mod tables;
 mod whole;
 
 pub use category::Cat;
+pub use ends::all_ends;
 pub use fault::CatFault;
 pub use laws::category_laws;
 pub use whole::{MAX_ARROWS, MAX_OBJECTS, is_whole};

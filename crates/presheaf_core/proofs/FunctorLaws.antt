@@ -5,8 +5,6 @@ use Rattle.std.proofs.lemmas.Bool.{eqb-true, eqb-false, eq-eqb, ne_eqb, not-true
 use Rattle.std.proofs.lemmas.List.FromFn.{get_or-map-range_with_len, get_or-range_with_len, length-map-range_with_len, length-range_with_len}
 use borrow.Author.Tests.{ltb-true, ltb-false}
 use Rattle.finite_lists.specs.First.{first, or_else, some_if}
-use Rattle.finite_lists.specs.Members.{In}
-use Rattle.finite_lists.proofs.Lists.{In-filter, In-filter_from}
 use Rattle.finite_lists.proofs.DistinctLists.{In-range, In-range_from}
 use Rattle.finite_lists.proofs.FirstAnswers.{first_none, first_none_each, some_if-false, first_some_each, first_same}
 use Rattle.topos_model.specs.declared.raw.RawFunctor.{RawFunctor}

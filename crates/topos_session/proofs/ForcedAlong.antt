@@ -1,5 +1,5 @@
 -- Forcing along an arrow, a form of formula at a time, in the words of the code.
-use Rattle.std.proofs.Common.{◌≡◌, ℕ, ◌+◌, ◌<◌, ◌≤◌, Bool, true, false, not, ◌&&◌, ◌||◌, eqb, List, [], ◌∷◌, ◌++◌, length, get_or, take, map, reverse, ◌⊎◌, inl, inr, refl, sym, ap, ◌∙◌, arith}
+use Rattle.std.proofs.Common.{◌≡◌, ℕ, ◌<◌, Bool, true, false, not, ◌&&◌, ◌||◌, eqb, List, [], ◌∷◌, length, get_or, reverse, inl, inr, refl, sym, ap, ◌∙◌}
 use Rattle.std.specs.List.{list_all}
 use Rattle.std.proofs.lemmas.Bool.{and_parts}
 use Rattle.std.proofs.lemmas.List.{length-reverse, reverse-append}
@@ -8,12 +8,12 @@ use Rattle.finite_lists.proofs.Lists.{In-append_cases, In_at, all_fails}
 use Rattle.topos_model.specs.declared.term.Term.{Term, Var, Eq, Truth, Falsity, And, Implies}
 use Rattle.topos_model.specs.Category.{Category, dom, cod, compose, into}
 use Rattle.topos_model.specs.Types.{Presheaf}
-use Rattle.topos_model.specs.Laws.{IsCategory, IsInto}
+use Rattle.topos_model.specs.Laws.{IsCategory}
 use Rattle.topos_model.specs.Form.{is_propositional}
 use Rattle.topos_model.proofs.FormEquations.{is_propositional-And, is_propositional-Implies}
 use Rattle.topos_model.specs.Forcing.{forces}
 use Rattle.topos_session.specs.declared.variable.Variable.{Variable}
-use Rattle.topos_session.specs.Variables.{AreFunctors, IsVariable, AreVariables, functors_inside, assigned, element_along, forced_along, presheaf_world}
+use Rattle.topos_session.specs.Variables.{AreFunctors, AreVariables, assigned, element_along, forced_along, presheaf_world}
 use Rattle.topos_session.proofs.PropositionalForcing.{forced_inside, forced_inside-Truth, forced_inside-Falsity, forced_inside-And, forced_inside-Eq, forced_inside-Implies, forced_inside_identity}
 
 In-reverse : {A : Type 0} (xs : List A) (x : A) → In (reverse xs) x → In xs x

@@ -1,22 +1,22 @@
 -- Forcing of propositional formulas along an arrow, a form at a time.
-use Rattle.std.proofs.Common.{◌≡◌, ℕ, ◌<◌, Bool, true, false, not, ◌&&◌, ◌||◌, List, [], ◌∷◌, length, get_or, map, eqb, refl, sym, ap, ◌∙◌, inl, inr, arith}
-use Rattle.std.specs.List.{list_any, list_all}
+use Rattle.std.proofs.Common.{◌≡◌, ℕ, ◌<◌, Bool, true, false, not, ◌&&◌, ◌||◌, List, [], ◌∷◌, length, get_or, map, eqb, refl, sym, ap, ◌∙◌, inl, inr}
+use Rattle.std.specs.List.{list_all}
 use Rattle.std.proofs.lemmas.List.{get_or-map, length-map}
 use Rattle.finite_lists.specs.Members.{In}
 use Rattle.finite_lists.proofs.Lists.{list_all_same}
-use Rattle.topos_model.specs.declared.ty.Ty.{Ty, Base, One as OneTy}
+use Rattle.topos_model.specs.declared.ty.Ty.{Ty, One as OneTy}
 use Rattle.topos_model.specs.declared.value.Val.{Val, El, Star}
 use Rattle.topos_model.specs.declared.term.Term.{Term, Var, Eq, Truth, Falsity, And, Implies}
-use Rattle.topos_model.specs.Category.{Category, dom, cod, compose, into}
+use Rattle.topos_model.specs.Category.{Category, dom, compose, into}
 use Rattle.topos_model.specs.Values.{same}
 use Rattle.topos_model.specs.Types.{Presheaf}
-use Rattle.topos_model.specs.Laws.{IsCategory, IsInto, IsFunctor, act, size}
+use Rattle.topos_model.specs.Laws.{IsCategory, IsInto}
 use Rattle.topos_model.specs.Forcing.{World, Assigned, along, forces, value, always, and_forced, implies_forced}
 use Rattle.topos_model.proofs.ValueEquations.{same-El}
 use Rattle.topos_model.proofs.MeaningEquations.{value-Var, forces-Eq, forces-Truth, forces-Falsity, forces-And, forces-Implies}
 use Rattle.topos_model.proofs.ArrowsInto.{In-into_from}
 use Rattle.topos_session.specs.declared.variable.Variable.{Variable}
-use Rattle.topos_session.specs.Variables.{valued, functor_at, AreFunctors, IsVariable, presheaf_world}
+use Rattle.topos_session.specs.Variables.{valued, AreFunctors, IsVariable, presheaf_world}
 use Rattle.topos_session.proofs.TrivialCovers.{falsity_nowhere}
 use Rattle.topos_session.proofs.Restricted.{restricted, along_each, restricted_identity, restricted_composite}
 

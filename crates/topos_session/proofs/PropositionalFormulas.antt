@@ -1,11 +1,10 @@
 -- What a propositional formula is made of.
-use Rattle.std.proofs.Common.{◌≡◌, ℕ, Bool, true, false, ◌&&◌, eqb, List, Option, Some, None, refl, sym, ap, ◌∙◌}
-use Rattle.std.proofs.lemmas.Bool.{and_parts}
+use Rattle.std.proofs.Common.{◌≡◌, ℕ, true, false, List, Option, Some, None, refl, sym, ap, ◌∙◌}
 use denote.Hole.Carrier
 use Rattle.topos_model.specs.declared.term.Term.{Term, Eq, Truth, Falsity, And, Implies, Eq', And', Implies', more_of-Term as only, end_of-Term as end}
 use Rattle.topos_model.specs.declared.term.Term.TheBlock.{hidden-the_row-Term-0}
 use Rattle.topos_model.specs.Form.{variable_functor, same_functor, is_propositional}
-use Rattle.topos_model.proofs.FormEquations.{is_propositional-Eq, is_propositional-And, is_propositional-Implies}
+use Rattle.topos_model.proofs.FormEquations.{is_propositional-Eq}
 
 both_some : (m n : Option ℕ) → same_functor m n ≡ true → (m ≡ None → ⊥) × (n ≡ None → ⊥)
 both_some (Some m) (Some n) e = (λ h. cc, λ h. cc)

@@ -1,5 +1,5 @@
 -- One step of the enumeration of tuples: a value for the next type.
-use Rattle.std.proofs.Common.{◌≡◌, ℕ, ◌+◌, ◌-◌, ◌<◌, ◌≤◌, Bool, true, false, cond, List, [], ◌∷◌, ◌++◌, length, get_or, take, drop, map, reverse, filter, refl, sym, ap, ◌∙◌, arith, append_assoc, append-nil, length-append, inl, inr, ◌⊎◌}
+use Rattle.std.proofs.Common.{◌≡◌, ℕ, ◌+◌, ◌-◌, ◌<◌, ◌≤◌, Bool, true, cond, List, [], ◌∷◌, ◌++◌, length, get_or, take, drop, map, reverse, filter, refl, sym, ap, ◌∙◌, arith, append_assoc, append-nil, length-append, inl, inr}
 use Rattle.std.specs.List.{flat_map, range_with_len, list_all}
 use Rattle.std.proofs.lemmas.Bool.{and_parts}
 use Rattle.std.proofs.lemmas.Grind.{flat_map-append}
@@ -8,16 +8,15 @@ use Rattle.std.proofs.lemmas.List.{get_or_default, map-append, reverse-append, r
 use borrow.Author.Tests.{ltb-true}
 use Rattle.std.proofs.lemmas.List.Folds.{flat_map-map}
 use Rattle.std.proofs.lemmas.List.Elements.{filter-append}
-use Rattle.finite_lists.specs.Members.{In}
 use Rattle.finite_lists.proofs.Lists.{In-append_cases}
 use Rattle.topos_model.specs.declared.ty.Ty.{Ty, Base}
 use Rattle.topos_model.specs.declared.value.Val.{Val, El}
 use Rattle.topos_model.specs.declared.term.Term.{Term}
 use Rattle.topos_model.specs.Category.{Category}
-use Rattle.topos_model.specs.Types.{Presheaf, elements, base_elements, functor}
+use Rattle.topos_model.specs.Types.{Presheaf, base_elements}
 use Rattle.topos_model.specs.Laws.{IsCategory, size}
 use Rattle.topos_model.specs.Form.{is_functor_name, named, is_propositional}
-use Rattle.topos_model.specs.Forcing.{Assigned, World, forces, values, shown}
+use Rattle.topos_model.specs.Forcing.{Assigned, forces, values, shown}
 use Rattle.topos_model.specs.declared.answer.Tuple.{Tuple}
 use Rattle.topos_model.specs.Run.{tuple_of}
 use Rattle.topos_model.proofs.TypeEquations.{elements-Base}

@@ -1,19 +1,15 @@
 -- Variables restricted along arrows: along an identity, along a composite, and the value of one of them.
-use Rattle.std.proofs.Common.{◌≡◌, ℕ, ◌+◌, ◌-◌, ◌<◌, ◌≤◌, Bool, true, false, List, [], ◌∷◌, ◌++◌, length, get_or, map, reverse, refl, sym, ap, ◌∙◌, inl, inr, arith}
-use Rattle.std.proofs.lemmas.List.{get_or-map, length-map}
-use Rattle.finite_lists.specs.Members.{In}
-use Rattle.finite_lists.proofs.Lists.{map_same, In-map_from}
-use Rattle.topos_model.specs.declared.ty.Ty.{Ty, Base, One as OneTy}
-use Rattle.topos_model.specs.declared.value.Val.{Val, El, Star}
-use Rattle.topos_model.specs.Category.{Category, dom, cod, compose, into}
-use Rattle.topos_model.specs.Values.{number_of}
-use Rattle.topos_model.specs.Types.{Presheaf, functor, restr, base_along}
-use Rattle.topos_model.specs.Laws.{IsCategory, IsInto, IsFunctor, act, size}
-use Rattle.topos_model.specs.Forcing.{World, Assigned, along}
+use Rattle.std.proofs.Common.{◌≡◌, ℕ, ◌<◌, List, [], ◌∷◌, map, refl, ap, ◌∙◌}
+use Rattle.topos_model.specs.declared.ty.Ty.{Ty, Base}
+use Rattle.topos_model.specs.declared.value.Val.{Val, El}
+use Rattle.topos_model.specs.Category.{Category, dom, compose}
+use Rattle.topos_model.specs.Types.{Presheaf, restr, base_along}
+use Rattle.topos_model.specs.Laws.{IsCategory, IsInto, act}
+use Rattle.topos_model.specs.Forcing.{along}
 use Rattle.topos_model.proofs.TypeEquations.{restr-Base}
 use Rattle.topos_model.proofs.ValueEquations.{number_of-El}
 use Rattle.topos_session.specs.declared.variable.Variable.{Variable}
-use Rattle.topos_session.specs.Variables.{valued, none, functor_at, AreFunctors, IsVariable, presheaf_world}
+use Rattle.topos_session.specs.Variables.{valued, functor_at, AreFunctors, IsVariable, presheaf_world}
 
 -- v.f
 abbrev pub restricted : List Presheaf → ℕ → Variable → Variable

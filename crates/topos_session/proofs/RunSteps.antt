@@ -1,5 +1,5 @@
 -- A run goes on behind an answer, and ends at a refusal or behind the last statement.
-use Rattle.std.proofs.Common.{◌≡◌, ℕ, ◌+◌, ◌≤◌, true, List, [], ◌∷◌, ◌++◌, length, drop, slice_get, Option, Some, None, refl, sym, ap, ◌∙◌, subst, add_assoc, add-one, add-zero, append_assoc, append-nil}
+use Rattle.std.proofs.Common.{◌≡◌, ℕ, ◌+◌, ◌≤◌, true, List, [], ◌∷◌, ◌++◌, length, drop, slice_get, Option, Some, None, refl, sym, ◌∙◌, subst, add_assoc, add-one, add-zero, append_assoc, append-nil}
 use Rattle.std.proofs.Math.Seq.{drop-cons}
 use Rattle.std.proofs.lemmas.List.{drop_all}
 use Rattle.std.proofs.lemmas.Option.{get_or_from_slice_get, slice_get_within}
@@ -92,6 +92,6 @@ pub refused_next : (doc back : Doc) (answers : List Answer) (p : Progress) (numb
     number ≡ p.doc.site_len + p.answered + 1 → back ≡ p.doc → RunOf back answers (Refused (Some number) fault)
 refused_next doc back answers p number fault before stop at is =
     let refused : RunOf doc (answers ++ []) (Refused (Some number) fault) =
-        before.goes_on [] (Refused (Some number) fault)
-        (rw (next_of p.doc.stmts p.answered stop.stmt stop.next, at) (runs_refused p.world (p.doc.site_len + p.answered + 1) stop.stmt (drop (p.answered + 1) p.doc.stmts) fault stop.refused)) in
+    before.goes_on [] (Refused (Some number) fault)
+    (rw (next_of p.doc.stmts p.answered stop.stmt stop.next, at) (runs_refused p.world (p.doc.site_len + p.answered + 1) stop.stmt (drop (p.answered + 1) p.doc.stmts) fault stop.refused)) in
     subst (λ (d : Doc). RunOf d answers (Refused (Some number) fault)) (sym (is ∙ before.same)) (subst (λ (l : List Answer). RunOf doc l (Refused (Some number) fault)) (append-nil answers) refused)

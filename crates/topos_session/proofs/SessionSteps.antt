@@ -1,5 +1,5 @@
 -- What holds of a session when it begins, and behind each statement.
-use Rattle.std.proofs.Common.{◌≡◌, ℕ, ◌+◌, ◌<◌, ◌≤◌, Bool, true, false, ◌&&◌, not, eqb, cond, List, [], ◌∷◌, ◌++◌, length, drop, get_or, slice_get, Option, Some, None, refl, sym, ap, ◌∙◌, subst, inl, inr, ◌⊎◌, length-append, add-zero, arith}
+use Rattle.std.proofs.Common.{◌≡◌, ℕ, ◌+◌, ◌<◌, ◌≤◌, Bool, true, false, not, eqb, List, [], ◌∷◌, ◌++◌, length, drop, get_or, slice_get, Some, None, refl, sym, ◌∙◌, subst, inl, inr, length-append, arith}
 use Rattle.std.proofs.Math.Nat.{eq-or-lt_of_le}
 use Rattle.std.proofs.Math.ListN.{get_or-append}
 use Rattle.std.proofs.Math.Seq.{get_or-append_seam}
@@ -11,17 +11,15 @@ use Rattle.topos_model.specs.declared.stmt.Stmt.{Stmt}
 use Rattle.topos_model.specs.declared.fault.Fault.{Fault}
 use Rattle.topos_model.specs.declared.fault.Fault.TheVariants.{NotBuilt}
 use Rattle.topos_model.specs.Category.{Category}
-use Rattle.topos_model.specs.Cover.{Site}
 use Rattle.topos_model.specs.Types.{Presheaf}
 use Rattle.topos_model.specs.Laws.{IsFunctor}
-use Rattle.topos_model.specs.Forcing.{World}
 use Rattle.topos_model.specs.Listed.{all_ends, listed_category}
 use Rattle.topos_model.specs.Faults.{associativity_fault}
 use Rattle.topos_model.specs.Form.{is_trivial, is_run, is_run_statement, declared_after, are_run}
-use Rattle.topos_model.specs.Run.{site_under, first_world, site_refusal}
+use Rattle.topos_model.specs.Run.{first_world, site_refusal}
 use Rattle.topos_session.specs.Variables.{AreFunctors, functor_at, none, presheaf_world}
 use Rattle.topos_session.specs.Progress.{IsUnderWay}
-use Rattle.topos_session.proofs.DocumentForms.{HasForm, has_form, are_run-from}
+use Rattle.topos_session.proofs.DocumentForms.{has_form, are_run-from}
 
 no_items : {A : Type 0} → (xs : List A) → eqb (length xs) 0 ≡ true → xs ≡ []
 no_items [] e = refl
@@ -32,16 +30,16 @@ not_true true e = cc
 not_true false e = refl
 
 -- where only the maximal sieves cover, the topology number 0 is listed and lists no cover
-trivial_site : (k : Category) (tops : List TopDecl) → is_trivial tops ≡ true →
+trivial_site : (tops : List TopDecl) → is_trivial tops ≡ true →
     (let top = get_or tops 0 (record { name = None; dense = false; covers = [] }) in (top.dense ≡ false) × (top.covers ≡ []))
-trivial_site k [] trivial = cc
-trivial_site k (top ∷ []) trivial = let (dense, covers) = and_parts _ _ trivial in (not_true top.dense dense, no_items top.covers covers)
-trivial_site k (top ∷ other ∷ rest) trivial = cc
+trivial_site [] trivial = cc
+trivial_site (top ∷ []) trivial = let (dense, covers) = and_parts _ _ trivial in (not_true top.dense dense, no_items top.covers covers)
+trivial_site (top ∷ other ∷ rest) trivial = cc
 
 pub first_world_is : (doc : Doc) (k : Category) → is_run doc ≡ true → k ≡ listed_category doc.cat → presheaf_world k [] ≡ first_world doc
 first_world_is doc k form listed =
     let form_of = has_form doc form in
-    let (dense, covers) = trivial_site k doc.tops form_of.covers in
+    let (dense, covers) = trivial_site doc.tops form_of.covers in
     rw (listed, dense, covers) refl
 
 -- no functor breaks the laws

@@ -1,5 +1,5 @@
 -- What the statements that are run answer.
-use Rattle.std.proofs.Common.{◌≡◌, ℕ, ◌+◌, true, List, [], ◌∷◌, ◌++◌, map, reverse, length, None, refl, sym, ap, ◌∙◌, subst, length-append}
+use Rattle.std.proofs.Common.{◌≡◌, ℕ, true, List, [], ◌∷◌, ◌++◌, map, reverse, length, None, refl, sym, ap, ◌∙◌, subst, length-append}
 use Rattle.std.specs.List.{list_all, range_with_len}
 use Rattle.std.proofs.lemmas.Bool.{and_parts}
 use Rattle.topos_model.specs.declared.raw.RawFunctor.{RawFunctor}
@@ -8,7 +8,6 @@ use Rattle.topos_model.specs.declared.term.Term.{Term}
 use Rattle.topos_model.specs.declared.stmt.Stmt.{Stmt}
 use Rattle.topos_model.specs.declared.stmt.Stmt.TheVariants.{Presheaf, Show}
 use Rattle.topos_model.specs.declared.answer.Tuple.{Tuple}
-use Rattle.topos_model.specs.declared.answer.Answer.{Answer}
 use Rattle.topos_model.specs.declared.answer.Answer.TheVariants.{Quiet, Shown}
 use Rattle.topos_model.specs.Category.{Category}
 use Rattle.topos_model.specs.Types.{Presheaf as Functor}
@@ -16,7 +15,7 @@ use Rattle.topos_model.specs.Laws.{IsFunctor}
 use Rattle.topos_model.specs.Listed.{listed_presheaf}
 use Rattle.topos_model.specs.Faults.{functoriality_fault}
 use Rattle.topos_model.specs.Forcing.{shown}
-use Rattle.topos_model.specs.Form.{is_functor_name, named, is_propositional, is_whole_presheaf, is_run_statement, declared_after}
+use Rattle.topos_model.specs.Form.{is_functor_name, named, is_propositional, is_whole_presheaf, is_run_statement}
 use Rattle.topos_model.specs.Run.{tuple_of}
 use Rattle.topos_session.specs.Variables.{AreFunctors, presheaf_world}
 use Rattle.topos_session.specs.Steps.{IsAnswered}

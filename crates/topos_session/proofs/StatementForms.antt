@@ -1,5 +1,5 @@
 -- The form that is run, a form of statement at a time.
-use Rattle.std.proofs.Common.{◌≡◌, ℕ, ◌+◌, Bool, true, false, ◌&&◌, eqb, List, map, reverse, refl}
+use Rattle.std.proofs.Common.{◌≡◌, ℕ, ◌+◌, false, ◌&&◌, eqb, List, map, reverse, refl}
 use Rattle.std.specs.List.{list_all}
 use Rattle.topos_model.specs.declared.raw.RawFunctor.{RawFunctor}
 use Rattle.topos_model.specs.declared.context.Ctx.{Ctx}

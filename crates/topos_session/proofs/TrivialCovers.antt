@@ -1,15 +1,14 @@
 -- Where only the maximal sieves cover, falsity is forced nowhere.
-use Rattle.std.proofs.Common.{◌≡◌, ℕ, ◌<◌, Bool, true, false, List, [], ◌∷◌, eqb, length, refl, sym, ◌∙◌, inl, inr, arith}
+use Rattle.std.proofs.Common.{◌≡◌, ℕ, ◌<◌, true, false, List, [], ◌∷◌, refl, inl, inr}
 use Rattle.std.specs.List.{list_any, list_all}
-use Rattle.std.proofs.lemmas.Bool.{or_cases, eq-eqb, eqb-true}
+use Rattle.std.proofs.lemmas.Bool.{or_cases}
 use Rattle.finite_lists.specs.Members.{In}
-use Rattle.finite_lists.proofs.Lists.{In-filter, In-filter_from, any_some, all_each, some_any}
-use Rattle.finite_lists.proofs.DistinctLists.{In-range, In-range_from}
-use Rattle.topos_model.specs.Category.{Category, cod, arrows, into, has, sieves}
-use Rattle.topos_model.specs.Cover.{Site, contains, is_listed, is_cover, covers}
+use Rattle.finite_lists.proofs.Lists.{In-filter_from, all_each}
+use Rattle.topos_model.specs.Category.{Category, into, has, sieves}
+use Rattle.topos_model.specs.Cover.{contains, is_listed, is_cover, covers}
 use Rattle.topos_model.specs.Types.{Presheaf}
-use Rattle.topos_model.specs.Laws.{IsCategory, IsInto}
-use Rattle.topos_model.specs.Forcing.{World, Assigned, locally, falsity_forced}
+use Rattle.topos_model.specs.Laws.{IsCategory}
+use Rattle.topos_model.specs.Forcing.{Assigned, locally, falsity_forced}
 use Rattle.topos_model.proofs.ArrowsInto.{In-into}
 use Rattle.topos_session.specs.Variables.{presheaf_world}
 

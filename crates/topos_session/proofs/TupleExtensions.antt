@@ -6,7 +6,6 @@ use Rattle.std.proofs.lemmas.Grind.{flat_map-append}
 use Rattle.std.proofs.lemmas.List.Folds.{flat_map-map}
 use Rattle.std.proofs.lemmas.List.Concat.{flat_map_single}
 use Rattle.topos_model.specs.declared.ty.Ty.{Ty}
-use Rattle.topos_model.specs.declared.value.Val.{Val}
 use Rattle.topos_model.specs.Forcing.{World, Assigned, tuples, values}
 use Rattle.topos_session.specs.Extensions.{extensions}
 

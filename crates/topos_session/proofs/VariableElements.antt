@@ -1,12 +1,12 @@
 -- A variable of a formula, the functor that it ranges over, and its element.
-use Rattle.std.proofs.Common.{◌≡◌, ℕ, zero, suc, ◌+◌, ◌-◌, ◌<◌, ◌≤◌, List, [], ◌∷◌, length, get_or, map, reverse, slice_get, Option, Some, None, ◌⊎◌, inl, inr, refl, sym, ap, ◌∙◌, arith}
+use Rattle.std.proofs.Common.{◌≡◌, ℕ, ◌-◌, ◌<◌, ◌≤◌, List, [], length, get_or, reverse, None, refl, sym, ap, ◌∙◌, arith}
 use Rattle.std.proofs.lemmas.List.{get_or_default, get_or-reverse, length-map, length-reverse}
 use Rattle.std.proofs.lemmas.Option.{slice_get_past}
 use Rattle.finite_lists.proofs.Lists.{In_at}
 use Rattle.topos_model.specs.declared.term.Term.{Term, Var}
 use Rattle.topos_model.specs.Category.{Category, cod}
 use Rattle.topos_model.specs.Types.{Presheaf}
-use Rattle.topos_model.specs.Laws.{IsFunctor, act}
+use Rattle.topos_model.specs.Laws.{act}
 use Rattle.topos_model.specs.Form.{variable_functor}
 use Rattle.topos_model.proofs.FormEquations.{variable_functor-Var}
 use Rattle.topos_session.specs.declared.variable.Variable.{Variable}

@@ -2,10 +2,10 @@
 ghost use Rattle.std.specs.Prelude.{◌≡◌, ◌<◌, ◌+◌, map, reverse, slice_get, leb, IfOk};
 ghost use Rattle.std.specs.List.{list_all};
 ghost use Rattle.topos_model.specs.Form.{is_functor_name, named, variable_functor, same_functor, is_propositional, is_trivial, is_run_statement, declared_after, are_run, max_statements, is_run};
-ghost use Rattle.topos_model.specs.Listed.{all_ends};
 
+use fin_category::all_ends;
 use std::alloc::Global;
-use topos_model::{Doc, NoMemory, RawCat, Row, Stmt, Term, TopDecl, Ty};
+use topos_model::{Doc, NoMemory, Stmt, Term, TopDecl, Ty};
 
 // How many statements a document may have, those of its site among them.
 const MAX_STATEMENTS: u32 = 10_000;
@@ -154,20 +154,6 @@ fn are_few(site_len: u32, stmts: usize) -> bool
     site_len <= MAX_STATEMENTS && stmts <= (MAX_STATEMENTS - site_len) as usize
 }
 
-// The ends of all arrows, the identities first.
-fn all_ends(alloc: Global, raw: &RawCat) -> Result<Row<(u32, u32)>, NoMemory>
-    ensures { IfOk result (λ ends. ends ≡ all_ends raw.now) }
-{
-    let mut ends = Row::new(alloc);
-    for c in 0..raw.objects {
-        ends.push((c, c))?;
-    }
-    for declared in raw.ends.as_slice() {
-        ends.push(*declared)?;
-    }
-    Ok(ends)
-}
-
 // Whether a statement is one that is run, where so many functors are declared before it.
 #[tactic(auto, using(crate::proofs::StatementForms::statement_rules))]
 fn is_run_statement(
@@ -236,5 +222,10 @@ pub(crate) fn is_run(alloc: Global, doc: &Doc) -> Result<bool, NoMemory>
         return Ok(false);
     }
     let ends = all_ends(alloc, &doc.cat)?;
-    are_run(alloc, doc.cat.objects, ends.as_slice(), doc.stmts.as_slice())
+    are_run(
+        alloc,
+        doc.cat.objects,
+        ends.as_slice(),
+        doc.stmts.as_slice(),
+    )
 }

@@ -1,6 +1,5 @@
-use Rattle.std.proofs.Common.{length, ◌∙◌}
+use Rattle.std.proofs.Common.{length}
 use Rattle.topos_session.proofs.StatementAnswers.{whole_presheaf, shown_form, declares, shows}
-use Rattle.topos_session.specs.Steps.{IsAnswered}
 use Rattle.topos_session.proofs.answer.answer.Goals as goal
 
 pub check-requires : goal.check-requires

@@ -1,6 +1,5 @@
-use Rattle.std.proofs.Common.{◌≤◌, sym, ◌∙◌, arith}
+use Rattle.std.proofs.Common.{sym, ◌∙◌, arith}
 use Rattle.std.proofs.lemmas.List.{drop_all}
-use Rattle.topos_model.specs.Form.{are_run}
 use Rattle.topos_session.proofs.DocumentForms.{are_run-empty, statement_fails, statement_passes, declares_one}
 use Rattle.topos_session.proofs.form.are_run.Goals as goal
 

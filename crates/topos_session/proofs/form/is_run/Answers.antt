@@ -1,4 +1,4 @@
-use Rattle.std.proofs.Common.{◌≡◌, true, sym, ◌∙◌}
+use Rattle.std.proofs.Common.{◌≡◌, sym, ◌∙◌}
 use Rattle.topos_model.specs.Form.{are_run, is_run}
 use Rattle.topos_session.proofs.DocumentForms.{many_fail, covers_fail, category_fails, statements_decide}
 use Rattle.topos_session.proofs.form.is_run.Goals as goal
@@ -18,8 +18,8 @@ pub returns : goal.returns
 returns c =
     let doc = c.args.doc.now in
     let decide : are_run doc.cat.objects c.as_slice-2.result.now 0 c.as_slice-3.result.now ≡ is_run doc =
-        rw (c.as_slice-2.ensures, c.in_ok-ends.ensures, c.as_slice-3.ensures) (statements_decide doc
-        (rw c.len.ensures at (sym c.are_few.ensures ∙ c.if-not-are_few.false))
-        (rw c.as_slice.ensures at (sym c.is_trivial.ensures ∙ c.if-not-is_trivial.false))
-        (sym c.in_ok-is_whole.ensures ∙ c.if-not-branch.false)) in
+    rw (c.as_slice-2.ensures, c.in_ok-ends.ensures, c.as_slice-3.ensures) (statements_decide doc
+    (rw c.len.ensures at (sym c.are_few.ensures ∙ c.if-not-are_few.false))
+    (rw c.as_slice.ensures at (sym c.is_trivial.ensures ∙ c.if-not-is_trivial.false))
+    (sym c.in_ok-is_whole.ensures ∙ c.if-not-branch.false)) in
     rw (← decide) c.are_run.ensures

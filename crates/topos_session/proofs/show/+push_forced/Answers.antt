@@ -1,12 +1,11 @@
-use Rattle.std.proofs.Common.{◌≡◌, ℕ, ◌+◌, ◌-◌, ◌<◌, ◌≤◌, List, [], ◌∷◌, ◌++◌, length, get_or, take, drop, map, true, false, ap, sym, ◌∙◌, arith, rules, append-nil, vec_len}
+use Rattle.std.proofs.Common.{◌≡◌, ◌-◌, ◌<◌, List, [], ◌∷◌, ◌++◌, length, take, drop, map, true, false, ap, sym, ◌∙◌, arith, append-nil, vec_len}
 use Rattle.std.proofs.lemmas.List.{get_or_default}
 use Rattle.topos_model.specs.declared.ty.Ty.{Ty, Base}
 use Rattle.topos_model.specs.Category.{Category}
 use Rattle.topos_model.specs.Laws.{size}
-use Rattle.topos_model.specs.Form.{is_propositional, named}
 use Rattle.topos_model.specs.Run.{tuple_of}
 use Rattle.topos_session.specs.declared.variable.Variable.{Variable}
-use Rattle.topos_session.specs.Variables.{none, functors_inside, assigned}
+use Rattle.topos_session.specs.Variables.{none, assigned}
 use Rattle.topos_session.proofs.PushedTuples.{variables-more, functor_name, last_form, next_form, pushed_more, first_and_rest, name_parts, forced_last, forced_next, forced_here, is_variable, popped}
 use Rattle.topos_session.proofs.show.+push_forced.Goals as goal
 

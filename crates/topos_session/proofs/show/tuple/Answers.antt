@@ -1,7 +1,6 @@
-use Rattle.std.proofs.Common.{◌≡◌, ◌∙◌, ap, sym, map, take, arith}
+use Rattle.std.proofs.Common.{◌∙◌, ap, sym, map, arith}
 use Rattle.std.proofs.lemmas.List.{take_all}
 use Rattle.topos_model.specs.declared.value.Val.{El}
-use Rattle.topos_model.specs.declared.answer.Tuple.{Tuple}
 use Rattle.topos_session.proofs.PushedTuples.{tuple_of_variables}
 use Rattle.topos_session.proofs.show.tuple.Goals as goal
 

@@ -1,13 +1,8 @@
-use Rattle.std.proofs.Common.{rules, ◌≡◌, true, List, refl, sym, ap, ◌∙◌, subst}
-use Rattle.topos_model.specs.Types.{Presheaf}
-use Rattle.topos_model.specs.declared.fault.Fault.TheVariants.{NotAssociative}
-use Rattle.fin_category.specs.Faults.{IsFaultOf}
+use Rattle.std.proofs.Common.{rules, ◌≡◌, true, refl, sym, ◌∙◌}
 use Rattle.topos_model.specs.Form.{is_run}
 use Rattle.topos_model.specs.Run.{site_refusal}
-use Rattle.topos_session.specs.Variables.{presheaf_world}
-use Rattle.topos_session.specs.Progress.{Progress, IsUnderWay}
 use Rattle.topos_session.proofs.DocumentForms.{has_form}
-use Rattle.topos_session.proofs.SessionSteps.{first_world_is, begins, accepted_site, refused_site, refused_form}
+use Rattle.topos_session.proofs.SessionSteps.{first_world_is, begins, accepted_site, refused_form}
 use Rattle.topos_session.proofs.session.Session.new.Goals as goal
 
 pub returns-then-not-branch-clause-stop : goal.returns-then-not-branch-clause-stop

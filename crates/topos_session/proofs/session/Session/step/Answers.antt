@@ -1,6 +1,5 @@
-use Rattle.std.proofs.Common.{◌≡◌, true, refl, sym, ap, ◌∙◌, arith}
+use Rattle.std.proofs.Common.{refl, ap, ◌∙◌, arith}
 use Rattle.topos_session.specs.Progress.{Progress}
-use Rattle.topos_session.specs.Steps.{IsStep, IsStop}
 use Rattle.topos_session.proofs.DocumentForms.{has_form}
 use Rattle.topos_session.proofs.SessionSteps.{next_has_form, goes_on}
 use Rattle.topos_session.proofs.session.Session.step.Goals as goal
