@@ -1,5 +1,5 @@
 -- Lists that rise in an order.
-use Rattle.std.specs.Prelude.{◌⊎◌, List, [], ◌∷◌, ⊤}
+use Rattle.std.specs.Prelude.{◌≡◌, ℕ, ◌<◌, ◌⊎◌, List, [], ◌∷◌, ⊤}
 use Rattle.finite_lists.specs.Members.{In}
 
 -- each member is below each later one
@@ -11,3 +11,12 @@ Rising below (x ∷ xs) = ((y : _) → In xs y → below x y) × Rising below xs
 abbrev pub SublistBelow : {A : Type 0} → List A → List A → List A → Type 0
 SublistBelow [] s t = ⊥
 SublistBelow (x ∷ l) s t = ((In s x → ⊥) × In t x) ⊎ ((In s x → In t x) × (In t x → In s x) × SublistBelow l s t)
+
+-- at the first place where they differ, s has the lower member
+abbrev pub LexicographicBelow : {A : Type 0} → (A → A → Type 0) → List A → List A → Type 0
+LexicographicBelow below [] t = ⊥
+LexicographicBelow below (x ∷ s) [] = ⊥
+LexicographicBelow below (x ∷ s) (y ∷ t) = below x y ⊎ ((x ≡ y) × LexicographicBelow below s t)
+
+abbrev pub NumbersBelow : List ℕ → List ℕ → Type 0
+NumbersBelow s t = LexicographicBelow (λ m n. m < n) s t

@@ -51,6 +51,11 @@ covers_edge : covers site 1 ≡ (1 ∷ 2 ∷ 3 ∷ []) ∷ []
 unfolding opened
 covers_edge = refl
 
+-- the truth values of graphs: two at a vertex, five at an edge
+omega_vertex : values world Omega 0 ≡ map Sv ([] ∷ (0 ∷ []) ∷ [])
+unfolding opened
+omega_vertex = refl
+
 omega_edge : values world Omega 1 ≡ map Sv ([] ∷ (3 ∷ []) ∷ (2 ∷ []) ∷ (2 ∷ 3 ∷ []) ∷ (1 ∷ 2 ∷ 3 ∷ []) ∷ [])
 unfolding opened
 omega_edge = refl
@@ -111,6 +116,14 @@ other = Exists (Base 0) (Not (Eq (Var 1) (Var 0)))
 classified : value (record { site = site; functors = K ∷ []; maps = [] }) other 1 ((Base 0, El 0) ∷ []) ≡ Sv (2 ∷ 3 ∷ [])
 unfolding opened K other
 classified = refl
+
+classified_first : value (record { site = site; functors = K ∷ []; maps = [] }) other 0 ((Base 0, El 0) ∷ []) ≡ Sv (0 ∷ [])
+unfolding opened K other
+classified_first = refl
+
+classified_second : value (record { site = site; functors = K ∷ []; maps = [] }) other 0 ((Base 0, El 1) ∷ []) ≡ Sv (0 ∷ [])
+unfolding opened K other
+classified_second = refl
 
 -- sets: a category with one arrow
 point : World

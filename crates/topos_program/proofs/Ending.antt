@@ -1,13 +1,11 @@
 -- How the run of a document ends.
-use Rattle.std.proofs.Common.{◌≡◌, ℕ, ◌+◌, List, [], ◌∷◌, ap, inl, inr, Option, None, Some}
+use Rattle.std.proofs.Common.{◌≡◌, ℕ, ◌+◌, List, [], ◌∷◌, ap, inl, inr, None, Some}
 use Rattle.topos_model.specs.declared.stmt.Stmt.{Stmt}
 use Rattle.topos_model.specs.declared.doc.Doc.{Doc}
 use Rattle.topos_model.specs.declared.answer.Answer.{Answer}
 use Rattle.topos_model.specs.declared.answer.End.{End}
 use Rattle.topos_model.specs.declared.answer.End.TheVariants.{Refused}
-use Rattle.topos_model.specs.declared.fault.Fault.{Fault}
 use Rattle.topos_model.specs.Forcing.{World}
-use Rattle.topos_model.specs.Listed.{listed_category}
 use Rattle.topos_model.specs.Run.{Answers, Runs, RunOf, refusal, site_refusal, first_world}
 use Rattle.topos_program.specs.Status.{status_of, IsDoneOrRefused}
 

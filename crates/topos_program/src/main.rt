@@ -1,4 +1,4 @@
-// Reads a document from standard input and writes its report to standard output.
+//! The program: it reads a document from standard input and writes its report to standard output.
 #![tactic(auto)]
 
 mod report;
@@ -15,7 +15,7 @@ use std::rt::Env;
 use std::{env, io};
 use topos_io::streams::{StdSink, StdSource};
 
-// The words of the command line.
+/// The words of the command line.
 fn words_of(rt: &(impl Env + AllocGlobal)) -> io::Result<Vec<String>> {
     let mut words = Vec::new(rt.alloc());
     for word in env::args(rt)? {
@@ -24,7 +24,7 @@ fn words_of(rt: &(impl Env + AllocGlobal)) -> io::Result<Vec<String>> {
     Ok(words)
 }
 
-// The same words, lent.
+/// The same words, lent.
 fn lent(alloc: Global, words: &[String]) -> Result<Vec<&str>, AllocError> {
     let mut lent = Vec::new(alloc);
     for word in words {
@@ -33,7 +33,7 @@ fn lent(alloc: Global, words: &[String]) -> Result<Vec<&str>, AllocError> {
     Ok(lent)
 }
 
-// Runs over standard input and output.
+/// Runs over standard input and output.
 fn run_streams(rt: &(impl Input + Print + AllocGlobal), words: &[String]) -> Status {
     let Ok(words) = lent(rt.alloc(), words) else {
         return Status::NoMemory;
@@ -43,7 +43,7 @@ fn run_streams(rt: &(impl Input + Print + AllocGlobal), words: &[String]) -> Sta
     run(rt.alloc(), &words, &mut src, &mut out)
 }
 
-// What stands for words that cannot be had.
+/// The status where the words cannot be had.
 fn without_words(error: &io::Error) -> Status {
     if error.kind() == io::ErrorKind::OutOfMemory {
         Status::NoMemory
