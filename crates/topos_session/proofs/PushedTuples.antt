@@ -24,7 +24,7 @@ use Rattle.topos_session.specs.declared.variable.Variable.{Variable}
 use Rattle.topos_session.specs.Extensions.{extensions}
 use Rattle.topos_session.specs.Variables.{valued, assigned, functor_at, AreFunctors, IsVariable, AreVariables, none, functors_inside, presheaf_world, forced_along, forced_extensions}
 use Rattle.topos_session.proofs.ForcedAlong.{forced_along_identity}
-use Rattle.topos_session.proofs.TupleExtensions.{tuples_extended}
+use Rattle.topos_session.proofs.TupleExtensions.{flat_map_same, map-none, tuples_extended}
 
 -- one more variable stands innermost
 pub assigned-more : (vs : List Variable) (v : Variable) → assigned (vs ++ v ∷ []) ≡ valued v ∷ assigned vs
@@ -50,10 +50,6 @@ forced_below k functors φ c n rest vs m = flat_map (λ x. forced_extensions k f
 filter-flat_map : {A B : Type 0} (p : B → Bool) (f : A → List B) (xs : List A) → filter p (flat_map f xs) ≡ flat_map (λ x. filter p (f x)) xs
 filter-flat_map p f [] = refl
 filter-flat_map p f (x ∷ xs) = filter-append p (f x) (flat_map f xs) ∙ ap (λ l. filter p (f x) ++ l) (filter-flat_map p f xs)
-
-flat_map_same : {A B : Type 0} (f g : A → List B) → ((x : A) → f x ≡ g x) → (xs : List A) → flat_map f xs ≡ flat_map g xs
-flat_map_same f g h [] = refl
-flat_map_same f g h (x ∷ xs) = rw (h x, flat_map_same f g h xs) refl
 
 -- with all elements these are the extensions by one more type
 pub forced_all : (k : Category) (functors : List Presheaf) (φ : Term) (c n : ℕ) (rest : List Ty) (vs : List Variable)
@@ -99,11 +95,7 @@ tuple_of_variables vs = ap (λ l. record { vals = l }) (ap (map (λ (x : Ty × V
     values_of (u ∷ us) = ap (λ l. El u.element ∷ l) (values_of us)
 
 range-more : (n : ℕ) → range_with_len 0 (n + 1) ≡ range_with_len 0 n ++ n ∷ []
-range-more n = sym (unchanged (range_with_len 0 (n + 1))) ∙ map-range_with_len_more (λ x. x) 0 n n (omega arith) ∙ ap (λ l. l ++ n ∷ []) (unchanged (range_with_len 0 n))
-  where
-    unchanged : (xs : List ℕ) → map (λ x. x) xs ≡ xs
-    unchanged [] = refl
-    unchanged (x ∷ xs) = ap (λ l. x ∷ l) (unchanged xs)
+range-more n = sym (map-none (range_with_len 0 (n + 1))) ∙ map-range_with_len_more (λ x. x) 0 n n (omega arith) ∙ ap (λ l. l ++ n ∷ []) (map-none (range_with_len 0 n))
 
 pub forced_more : (k : Category) (functors : List Presheaf) (φ : Term) (c n : ℕ) (rest : List Ty) (vs : List Variable) (m : ℕ)
     → forced_below k functors φ c n rest vs (m + 1) ≡ forced_below k functors φ c n rest vs m ++ forced_extensions k functors φ c rest (vs ++ record { functor = n; element = m } ∷ [])

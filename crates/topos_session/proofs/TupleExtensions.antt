@@ -13,11 +13,11 @@ flat_map-flat_map : {A B C : Type 0} (g : B → List C) (f : A → List B) (xs :
 flat_map-flat_map g f [] = refl
 flat_map-flat_map g f (x ∷ xs) = flat_map-append g (f x) (flat_map f xs) ∙ ap (λ l. flat_map g (f x) ++ l) (flat_map-flat_map g f xs)
 
-flat_map_same : {A B : Type 0} (f g : A → List B) → ((x : A) → f x ≡ g x) → (xs : List A) → flat_map f xs ≡ flat_map g xs
+pub flat_map_same : {A B : Type 0} (f g : A → List B) → ((x : A) → f x ≡ g x) → (xs : List A) → flat_map f xs ≡ flat_map g xs
 flat_map_same f g h [] = refl
 flat_map_same f g h (x ∷ xs) = rw (h x, flat_map_same f g h xs) refl
 
-map-none : {A : Type 0} (xs : List A) → map (λ x. x) xs ≡ xs
+pub map-none : {A : Type 0} (xs : List A) → map (λ x. x) xs ≡ xs
 map-none [] = refl
 map-none (x ∷ xs) = ap (λ l. x ∷ l) (map-none xs)
 
