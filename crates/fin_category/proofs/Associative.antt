@@ -1,38 +1,31 @@
 -- The first failing triple against the law: no fault is associativity, and a fault is an instance.
-use Rattle.std.proofs.Common.{◌≡◌, ℕ, ◌<◌, Bool, true, false, not, eqb, Option, Some, None, List, [], ◌∷◌, length, refl, ap, ◌∙◌}
+use Rattle.std.proofs.Common.{◌≡◌, ℕ, ◌<◌, Bool, true, false, not, eqb, Some, None, length, refl, ap, ◌∙◌}
 use Rattle.std.proofs.lemmas.Bool.{eqb-true, eqb-false, eq-eqb, ne_eqb, not-false, not-true}
-use Rattle.finite_lists.specs.First.{first, or_else, some_if}
-use Rattle.finite_lists.proofs.FirstAnswers.{first_none, first_none_each, some_if-false, first_some_each, first_same}
+use Rattle.finite_lists.specs.First.{some_if}
+use Rattle.finite_lists.proofs.FirstAnswers.{first_none, first_none_each, some_if-false, first_some_each, first_same, option_map-first, option_map-some_if}
+use Rattle.std.specs.Option.{option_map}
+use Rattle.topos_model.specs.declared.fault.Fault.{Fault}
 use Rattle.topos_model.specs.declared.fault.Fault.TheVariants.{NotAssociative}
-use Rattle.topos_model.specs.Category.{Category, dom, cod, compose, into, arrows}
+use Rattle.topos_model.specs.categories.Category.{Category, dom, cod, compose, into, arrows}
 use Rattle.topos_model.specs.Laws.{IsInto, AreComposable, IsCategory}
 use Rattle.topos_model.specs.Faults.{associativity_fault}
-use Rattle.fin_category.specs.Associativity.{triple_at, triple_from_pair, triple_from, failing_triple, fault_of}
+use Rattle.fin_category.specs.Associativity.{triple_at, triple_from_pair, triple_from, failing_triple}
 use Rattle.topos_model.proofs.ArrowsInto.{In-into, In-into_from, In-arrows, In-arrows_from}
 
 abbrev pub Associates : Category → ℕ → ℕ → ℕ → Type 0
 Associates k h g f = compose k h (compose k g f) ≡ compose k (compose k h g) f
 
--- the fault of a search's answer is the answer of the search for faults
-fault_of-first : {A : Type 0} (test : A → Option (ℕ × ℕ × ℕ)) (xs : List A) → fault_of (first test xs) ≡ first (λ x. fault_of (test x)) xs
-fault_of-first test [] = refl
-fault_of-first {A} test (x ∷ xs) = at (test x) (fault_of-first test xs)
-  where
-    at : (o : Option (ℕ × ℕ × ℕ)) → fault_of (first test xs) ≡ first (λ x. fault_of (test x)) xs → fault_of (or_else o (first test xs)) ≡ or_else (fault_of o) (first (λ x. fault_of (test x)) xs)
-    at (Some t) ih = refl
-    at None ih = ih
+-- the fault of a failing triple
+abbrev pub triple_fault : ℕ × ℕ × ℕ → Fault
+triple_fault t = NotAssociative t.0 t.1 t.2
 
-fault_of-some_if : (b : Bool) (h g f : ℕ) → fault_of (some_if b (h, g, f)) ≡ some_if b (NotAssociative h g f)
-fault_of-some_if true h g f = refl
-fault_of-some_if false h g f = refl
-
-pub fault_of-failing_triple : (k : Category) → fault_of (failing_triple k) ≡ associativity_fault k
+pub fault-failing_triple : (k : Category) → option_map triple_fault (failing_triple k) ≡ associativity_fault k
 unfolding associativity_fault triple_at triple_from_pair triple_from failing_triple
-fault_of-failing_triple k =
-    fault_of-first (triple_from k) (arrows k)
-    ∙ first_same _ _ (arrows k) (λ h i. fault_of-first (triple_from_pair k h) (into k (dom k h))
-    ∙ first_same _ _ (into k (dom k h)) (λ g j. fault_of-first (triple_at k h g) (into k (dom k g))
-    ∙ first_same _ _ (into k (dom k g)) (λ f l. fault_of-some_if (not (eqb (compose k h (compose k g f)) (compose k (compose k h g) f))) h g f)))
+fault-failing_triple k =
+    option_map-first triple_fault (triple_from k) (arrows k)
+    ∙ first_same _ _ (arrows k) (λ h i. option_map-first triple_fault (triple_from_pair k h) (into k (dom k h))
+    ∙ first_same _ _ (into k (dom k h)) (λ g j. option_map-first triple_fault (triple_at k h g) (into k (dom k g))
+    ∙ first_same _ _ (into k (dom k g)) (λ f l. option_map-some_if triple_fault (not (eqb (compose k h (compose k g f)) (compose k (compose k h g) f))) (h, g, f))))
 
 pub associative_none : (k : Category) → IsCategory k → associativity_fault k ≡ None
 unfolding associativity_fault

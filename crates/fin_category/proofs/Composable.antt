@@ -7,9 +7,9 @@ use Rattle.finite_lists.specs.Rising.{Rising}
 use Rattle.finite_lists.proofs.Lists.{In-map, In-map_from, In-flat_map, In-flat_map_from, In-filter, In-filter_from}
 use Rattle.finite_lists.proofs.DistinctLists.{In-range, In-range_from}
 use Rattle.finite_lists.proofs.RisingLists.{Rising-filter, Rising-map, Rising-flat_map, Rising-range}
-use Rattle.topos_model.specs.Category.{composite}
+use Rattle.topos_model.specs.categories.Category.{composite}
 use Rattle.topos_model.specs.Laws.{EntryBelow}
-use Rattle.topos_model.specs.Listed.{meet, composable}
+use Rattle.topos_model.specs.categories.Listed.{meet, composable}
 
 pub In-composable : (ends : List (ℕ × ℕ)) (g f : ℕ) → g < length ends → f < length ends → meet ends g f ≡ true → In (composable ends) (g, f)
 unfolding composable
@@ -49,19 +49,24 @@ composite-map value (p ∷ pairs) g f h = at (eqb p.0 g && eqb p.1 f) refl h (co
         absurd (both_ways (eqb p.0 g && eqb p.1 f) e (and_from (eqb p.0 g) (eqb p.1 f) (eq-eqb p.0 g (ap (λ (q : ℕ × ℕ). q.0) s)) (eq-eqb p.1 f (ap (λ (q : ℕ × ℕ). q.1) s))))
     at false e (inr i) ih = ih i
 
+-- one pair stands lexicographically before another
+abbrev pub PairBelow : ℕ × ℕ → ℕ × ℕ → Type 0
+PairBelow p q = (p.0 < q.0) ⊎ ((p.0 ≡ q.0) × (p.1 < q.1))
+
 -- the pairs rise
-pub Rising-composable : (ends : List (ℕ × ℕ)) (value : ℕ → ℕ → ℕ) → Rising EntryBelow (map (λ p. (p.0, p.1, value p.0 p.1)) (composable ends))
+pub composable_rises : (ends : List (ℕ × ℕ)) → Rising PairBelow (composable ends)
 unfolding composable
-Rising-composable ends value =
-    Rising-map PairBelow EntryBelow (λ (p : ℕ × ℕ). (p.0, p.1, value p.0 p.1)) (composable ends) (λ p q i j h. h)
-    (Rising-flat_map (λ m n. m < n) PairBelow (λ (g : ℕ). map (λ (f : ℕ). (g, f)) (filter (meet ends g) (range_with_len 0 (length ends)))) (range_with_len 0 (length ends))
+composable_rises ends =
+    Rising-flat_map (λ m n. m < n) PairBelow (λ (g : ℕ). map (λ (f : ℕ). (g, f)) (filter (meet ends g) (range_with_len 0 (length ends)))) (range_with_len 0 (length ends))
     (Rising-range 0 (length ends))
     (λ g i. Rising-map (λ m n. m < n) PairBelow (λ (f : ℕ). (g, f)) (filter (meet ends g) (range_with_len 0 (length ends))) (λ m n i j h. inr (refl, h))
     (Rising-filter (λ m n. m < n) (meet ends g) (range_with_len 0 (length ends)) (Rising-range 0 (length ends))))
     (λ g h p q i j l m n.
     let a = In-map_from (λ (f : ℕ). (g, f)) (filter (meet ends g) (range_with_len 0 (length ends))) p m in
     let b = In-map_from (λ (f : ℕ). (h, f)) (filter (meet ends h) (range_with_len 0 (length ends))) q n in
-    inl (rw (← ap (λ (p : ℕ × ℕ). p.0) a.2, ← ap (λ (p : ℕ × ℕ). p.0) b.2) l)))
-  where
-    PairBelow : ℕ × ℕ → ℕ × ℕ → Type 0
-    PairBelow p q = (p.0 < q.0) ⊎ ((p.0 ≡ q.0) × (p.1 < q.1))
+    inl (rw (← ap (λ (p : ℕ × ℕ). p.0) a.2, ← ap (λ (p : ℕ × ℕ). p.0) b.2) l))
+
+-- and with them the entries of a table
+pub Rising-composable : (ends : List (ℕ × ℕ)) (value : ℕ → ℕ → ℕ) → Rising EntryBelow (map (λ p. (p.0, p.1, value p.0 p.1)) (composable ends))
+Rising-composable ends value =
+    Rising-map PairBelow EntryBelow (λ (p : ℕ × ℕ). (p.0, p.1, value p.0 p.1)) (composable ends) (λ p q i j h. h) (composable_rises ends)

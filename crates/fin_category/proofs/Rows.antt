@@ -4,7 +4,7 @@ use Rattle.std.specs.List.{range_with_len}
 use Rattle.std.proofs.lemmas.Bool.{eq-eqb, ne_eqb}
 use Rattle.std.proofs.lemmas.List.FromFn.{map-range_with_len_more, filter_of_map_range_with_len_more}
 use Rattle.std.proofs.lemmas.List.{map-id}
-use Rattle.topos_model.specs.Category.{Category, into}
+use Rattle.topos_model.specs.categories.Category.{Category, into}
 use Rattle.fin_category.specs.Tables.{ending_at, ending_at_each}
 
 -- those of the arrows below n that end at c

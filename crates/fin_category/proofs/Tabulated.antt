@@ -4,9 +4,9 @@ use Rattle.std.proofs.lemmas.Bool.{eqb-true, eq-eqb}
 use Rattle.finite_lists.specs.Members.{In}
 use Rattle.finite_lists.specs.Rising.{Rising}
 use Rattle.finite_lists.proofs.Lists.{In-map, In-map_from, map_same}
-use Rattle.topos_model.specs.Category.{compose}
+use Rattle.topos_model.specs.categories.Category.{compose}
 use Rattle.topos_model.specs.Laws.{AreComposable, EntryBelow}
-use Rattle.topos_model.specs.Listed.{meet, composable}
+use Rattle.topos_model.specs.categories.Listed.{meet, composable}
 use Rattle.fin_category.specs.Tables.{tabulated, entry, category_of}
 use Rattle.fin_category.proofs.Composable.{In-composable, In-composable_from, composite-map, Rising-composable}
 

@@ -1,8 +1,6 @@
 -- The first failing triple, by one search for each arrow.
-use Rattle.std.specs.Prelude.{ℕ, not, eqb, Option, Some, None}
-use Rattle.topos_model.specs.declared.fault.Fault.{Fault}
-use Rattle.topos_model.specs.declared.fault.Fault.TheVariants.{NotAssociative}
-use Rattle.topos_model.specs.Category.{Category, into, dom, compose, arrows}
+use Rattle.std.specs.Prelude.{ℕ, not, eqb, Option}
+use Rattle.topos_model.specs.categories.Category.{Category, into, dom, compose, arrows}
 use Rattle.finite_lists.specs.First.{first, some_if}
 
 -- h, g, f, if h.(g.f) is other than (h.g).f
@@ -20,8 +18,3 @@ triple_from k h = first (triple_from_pair k h) (into k (dom k h))
 -- the first of all
 unfoldable pub failing_triple : Category → Option (ℕ × ℕ × ℕ)
 failing_triple k = first (triple_from k) (arrows k)
-
--- the fault that a failing triple is
-abbrev pub fault_of : Option (ℕ × ℕ × ℕ) → Option Fault
-fault_of None = None
-fault_of (Some t) = Some (NotAssociative t.0 t.1 t.2)

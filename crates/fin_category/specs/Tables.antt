@@ -1,10 +1,10 @@
 -- Categories from their tables.
 use Rattle.std.specs.Prelude.{◌≡◌, ℕ, ◌+◌, ◌*◌, ◌<◌, ◌≤◌, List, length, get_or, map, eqb, filter}
 use Rattle.std.specs.List.{range_with_len}
-use Rattle.topos_model.specs.Category.{Category, dom, cod, compose}
+use Rattle.topos_model.specs.categories.Category.{Category, dom, cod, compose}
 use Rattle.topos_model.specs.Laws.{IsInto, AreComposable}
-use Rattle.topos_model.specs.Listed.{composable}
-use Rattle.topos_model.specs.Form.{max_objects, max_arrows}
+use Rattle.topos_model.specs.categories.Listed.{composable}
+use Rattle.topos_model.specs.statements.Form.{max_objects, max_arrows}
 
 -- the category with these ends and with the composites that a function gives
 unfoldable pub tabulated : ℕ → List (ℕ × ℕ) → (ℕ → ℕ → ℕ) → Category

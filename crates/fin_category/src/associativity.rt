@@ -1,6 +1,6 @@
 // The first triple of arrows that does not associate.
 ghost use Rattle.std.specs.Prelude.{◌≡◌, ◌<◌, length};
-ghost use Rattle.topos_model.specs.Category.{dom, cod};
+ghost use Rattle.topos_model.specs.categories.Category.{dom, cod};
 ghost use Rattle.fin_category.specs.Associativity.{triple_from_pair, triple_from, failing_triple};
 
 use crate::tables::Tables;

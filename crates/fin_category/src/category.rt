@@ -1,10 +1,10 @@
 // Finite categories that are checked.
-ghost use Rattle.std.specs.Prelude.{◌≡◌, ◌<◌, ◌≤◌, ℕ, true, None, length, slice_index, IfOk, IfErr};
-ghost use Rattle.topos_model.specs.Category.{dom, cod, compose, into};
+ghost use Rattle.std.specs.Prelude.{◌≡◌, ◌<◌, ◌≤◌, ◌+◌, ℕ, None, length, slice_index, IfOk, IfErr};
+ghost use Rattle.topos_model.specs.categories.Category.{dom, cod, compose, into};
 ghost use Rattle.topos_model.specs.Laws.{IsInto, IsCategory};
-ghost use Rattle.topos_model.specs.Listed.{listed_category};
-ghost use Rattle.topos_model.specs.Form.{is_whole_category, max_objects, max_arrows};
-ghost use Rattle.topos_model.specs.Faults.{associativity_fault};
+ghost use Rattle.topos_model.specs.categories.Filling.{filled_category};
+ghost use Rattle.topos_model.specs.categories.CategoryFaults.{category_fault, IsCategoryListing};
+ghost use Rattle.topos_model.specs.statements.Form.{max_objects, max_arrows};
 
 use crate::CatFault;
 use crate::associativity::failing_triple;
@@ -13,6 +13,12 @@ use std::alloc::Global;
 use std::marker::Model;
 use topos_model::{Copied, NoMemory, RawCat};
 
+/// How many objects a category may have.
+pub const MAX_OBJECTS: u32 = 128;
+
+/// How many arrows a category may have, the identities among them.
+pub const MAX_ARROWS: u32 = 512;
+
 /// A finite category. Objects are numbered from 0, and so are arrows, the identities first in the order of the objects.
 #[derive(Drop)]
 pub struct Cat {
@@ -20,7 +26,7 @@ pub struct Cat {
 }
 
 impl Model for Cat {
-    ghost use Rattle.topos_model.specs.Category.{Category};
+    ghost use Rattle.topos_model.specs.categories.Category.{Category};
     ghost use Rattle.topos_model.specs.Laws.{IsCategory};
 
     ghost Value = { Category };
@@ -33,15 +39,18 @@ impl Model for Cat {
 impl Cat {
     ghost use Rattle.fin_category.specs.Faults.{IsFaultOf};
 
-    /// The category that is listed, or the first triple (h, g, f), in lexicographic order, for which h.(g.f) is other than (h.g).f.
-    /// Want of memory is the only other error.
+    /// The category that is listed, each composite that is left out being the only arrow with its ends, identities counted; or the first fault.
+    /// At each listed composite in turn come 32 and then 31; after them 30, at the first pair (g, f) that meets and has no composite; and then 33, at the
+    /// first triple (h, g, f) for which h.(g.f) is other than (h.g).f. Pairs and triples stand in lexicographic order. Want of memory may come before any of these.
     pub fn check(alloc: Global, raw: &RawCat) -> Result<Cat, CatFault>
-        requires { is_whole_category raw.now ≡ true }
-        ensures category { IfOk result (λ k. k ≡ listed_category raw.now) }
-        ensures associative { IfOk result (λ _. associativity_fault (listed_category raw.now) ≡ None) }
-        ensures fault { IfErr result (λ fault. IsFaultOf (listed_category raw.now) fault) }
+        requires objects { raw.now.objects ≤ max_objects }
+        requires arrows { raw.now.objects + length raw.now.ends ≤ max_arrows }
+        requires within { IsCategoryListing raw.now }
+        ensures category { IfOk result (λ k. k ≡ filled_category raw.now) }
+        ensures faultless { IfOk result (λ _. category_fault raw.now ≡ None) }
+        ensures fault { IfErr result (λ fault. IsFaultOf raw.now fault) }
     {
-        let tables = Tables::listed(alloc, raw)?;
+        let tables = Tables::filled(alloc, raw)?;
         match failing_triple(&tables) {
             Some((h, g, f)) => Err(CatFault::NotAssociative { h, g, f }),
             None => Ok(Cat { tables }),
@@ -64,6 +73,14 @@ impl Cat {
         ensures lawful { IsCategory self.now }
     {
         self.tables.arrows()
+    }
+
+    /// Gives a proof the laws of the category, and that it has no more arrows than a set of arrows may hold. It does nothing when it runs.
+    pub fn laws(&self)
+        ensures few { length self.now.ends ≤ max_arrows }
+        ensures lawful { IsCategory self.now }
+    {
+        let _count = self.tables.arrows();
     }
 
     /// The domain of f.
@@ -113,6 +130,7 @@ impl Cat {
     pub fn arrows_into(&self, c: u32) -> &[u32]
         requires { c < self.now.objects }
         ensures value { result.now ≡ into self.now c }
+        ensures few { length result.now ≤ max_arrows }
         ensures each { (i : ℕ) → i < length result.now → IsInto self.now c (slice_index result.now i) }
     {
         self.tables.arrows_into(c)

@@ -1,6 +1,6 @@
 // The ends of all arrows, and the arrows by their codomains.
 ghost use Rattle.std.specs.Prelude.{◌≡◌, ◌<◌, ◌≤◌, ◌^◌, length, IfOk};
-ghost use Rattle.topos_model.specs.Listed.{all_ends};
+ghost use Rattle.topos_model.specs.categories.Listed.{all_ends};
 ghost use Rattle.fin_category.specs.Tables.{ending_at, ending_at_each};
 
 use std::alloc::Global;

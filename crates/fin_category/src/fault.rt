@@ -4,7 +4,13 @@ use topos_model::NoMemory;
 /// Why listed data give no category. Arrows go by their numbers, the identities first.
 #[derive(Clone, Copy, Debug, PartialEq, Eq)]
 pub enum CatFault {
-    /// h.(g.f) is other than (h.g).f, and no triple before (h, g, f) fails.
+    /// 30: the composite g.f is not listed, and the arrows with its ends are none or several.
+    CompositeMissing { g: u32, f: u32 },
+    /// 31: the composite g.f is listed before.
+    CompositeTwice { g: u32, f: u32 },
+    /// 32: the listed h has other ends than g.f, or f ends elsewhere than g begins.
+    CompositeEnds { g: u32, f: u32, h: u32 },
+    /// 33: h.(g.f) is other than (h.g).f, and no triple before (h, g, f) fails.
     NotAssociative { h: u32, g: u32, f: u32 },
     /// No memory was left.
     NoMemory,

@@ -1,9 +1,10 @@
-// Laws of the check of associativity.
-ghost use Rattle.fin_category.specs.Laws.{WholeTablesAreCategories, CategoriesHaveNoFault, FaultsAreInstances};
+// Laws of the check of a listed category.
+ghost use Rattle.topos_model.specs.categories.CategoryFaults.{FaultlessListingsAreOneCategory};
+ghost use Rattle.fin_category.specs.Laws.{CategoriesAssociate, FailingTriplesFail};
 
-/// A whole table with no failing triple is a category, a category has no failing triple, and a failing triple that is given fails.
+/// No fault is found exactly if some category is filled and lawful, and then there is exactly one; a category associates, and a failing triple that is given fails.
 pub fn category_laws()
-    ensures sound { WholeTablesAreCategories }
-    ensures complete { CategoriesHaveNoFault }
-    ensures instance { FaultsAreInstances }
+    ensures one { FaultlessListingsAreOneCategory }
+    ensures complete { CategoriesAssociate }
+    ensures instance { FailingTriplesFail }
 {}

@@ -1,17 +1,23 @@
-//! Finite categories, checked: whole tables of composites, and the first failing instance of associativity.
+//! Finite categories, checked: composites that are left out are filled, and the first fault of what is listed is found.
 #![tactic(auto)]
 
+mod arrow_iter;
 mod associativity;
 mod category;
 mod ends;
 mod fault;
+mod filling;
+mod into;
 mod laws;
-mod square;
+mod listed;
+mod listing;
+mod mask;
 mod tables;
-mod whole;
 
-pub use category::Cat;
+pub use arrow_iter::ArrowIter;
+pub use category::{Cat, MAX_ARROWS, MAX_OBJECTS};
 pub use ends::all_ends;
 pub use fault::CatFault;
 pub use laws::category_laws;
-pub use whole::{MAX_ARROWS, MAX_OBJECTS, is_whole};
+pub use listed::is_listing;
+pub use mask::ArrowMask;

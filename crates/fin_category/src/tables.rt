@@ -1,12 +1,15 @@
 // The tables of a category, which hold all but associativity.
-ghost use Rattle.std.specs.Prelude.{◌≡◌, ◌<◌, ◌≤◌, ℕ, true, length, slice_index, IfOk};
-ghost use Rattle.topos_model.specs.Category.{dom, cod, compose, into};
+ghost use Rattle.std.specs.Prelude.{◌≡◌, ◌<◌, ◌≤◌, ◌+◌, ℕ, None, length, slice_index, IfOk, IfErr};
+ghost use Rattle.topos_model.specs.categories.Category.{dom, cod, compose, into};
 ghost use Rattle.topos_model.specs.Laws.{IsInto};
-ghost use Rattle.topos_model.specs.Listed.{listed_category};
-ghost use Rattle.topos_model.specs.Form.{is_whole_category, max_objects, max_arrows};
+ghost use Rattle.topos_model.specs.categories.Filling.{filled_category};
+ghost use Rattle.topos_model.specs.categories.CategoryFaults.{listing_fault, missing_composite_fault, IsCategoryListing};
+ghost use Rattle.topos_model.specs.statements.Form.{max_objects, max_arrows};
+ghost use Rattle.fin_category.specs.Faults.{IsFaultOf};
 
-use crate::ends::{all_ends, rows_into};
-use crate::square::square_of;
+use crate::CatFault;
+use crate::filling::filled_square;
+use crate::listing::tested_listing;
 use std::alloc::Global;
 use std::marker::Model;
 use topos_model::{Copied, NoMemory, RawCat, Row};
@@ -21,7 +24,7 @@ pub(crate) struct Tables {
 }
 
 impl Model for Tables {
-    ghost use Rattle.topos_model.specs.Category.{Category};
+    ghost use Rattle.topos_model.specs.categories.Category.{Category};
     ghost use Rattle.fin_category.specs.Tables.{category_of, AreTables};
 
     ghost Value = { Category };
@@ -32,19 +35,23 @@ impl Model for Tables {
 }
 
 impl Tables {
-    // The tables of the category that is listed.
-    pub(crate) fn listed(alloc: Global, raw: &RawCat) -> Result<Tables, NoMemory>
-        requires { is_whole_category raw.now ≡ true }
-        ensures { IfOk result (λ tables. tables ≡ listed_category raw.now) }
+    // The tables of the filled category, or the first fault before associativity.
+    pub(crate) fn filled(alloc: Global, raw: &RawCat) -> Result<Tables, CatFault>
+        requires objects { raw.now.objects ≤ max_objects }
+        requires arrows { raw.now.objects + length raw.now.ends ≤ max_arrows }
+        requires within { IsCategoryListing raw.now }
+        ensures category { IfOk result (λ tables. tables ≡ filled_category raw.now) }
+        ensures listing { IfOk result (λ _. listing_fault raw.now ≡ None) }
+        ensures missing { IfOk result (λ _. missing_composite_fault raw.now ≡ None) }
+        ensures fault { IfErr result (λ fault. IsFaultOf raw.now fault) }
     {
-        let ends = all_ends(alloc, raw)?;
-        let composites = square_of(alloc, raw.objects, ends.len() as u32, raw.listed.as_slice())?;
-        let rows = rows_into(alloc, raw.objects, ends.as_slice())?;
+        let listing = tested_listing(alloc, raw)?;
+        let composites = filled_square(alloc, raw, &listing)?;
         Ok(Tables {
             objects: raw.objects,
-            ends,
+            ends: listing.ends,
             composites,
-            rows,
+            rows: listing.rows,
         })
     }
 
@@ -93,6 +100,7 @@ impl Tables {
     pub(crate) fn arrows_into(&self, c: u32) -> &[u32]
         requires { c < self.now.objects }
         ensures value { result.now ≡ into self.now c }
+        ensures few { length result.now ≤ max_arrows }
         ensures each { (i : ℕ) → i < length result.now → IsInto self.now c (slice_index result.now i) }
     {
         self.rows.get(c as usize).as_slice()

@@ -1,5 +1,6 @@
 -- The first answer of a test: at a front with none, at its place, and where there is none.
-use Rattle.std.proofs.Common.{◌≡◌, ℕ, ◌+◌, ◌<◌, ◌≤◌, Bool, true, false, List, [], ◌∷◌, length, get_or, drop, Option, Some, None, refl, sym, ap, ◌∙◌, inl, inr}
+use Rattle.std.proofs.Common.{◌≡◌, ℕ, ◌+◌, ◌<◌, ◌≤◌, Bool, true, false, cond, List, [], ◌∷◌, ◌++◌, map, filter, flat_map, length, get_or, drop, Option, Some, None, refl, sym, ap, ◌∙◌, ◌⊎◌, inl, inr}
+use Rattle.std.specs.Option.{option_map}
 use Rattle.std.proofs.lemmas.List.{drop_more, drop_all}
 use Rattle.finite_lists.specs.First.{first, or_else, some_if}
 use Rattle.finite_lists.specs.Members.{In}
@@ -16,7 +17,7 @@ pub first_none : {A B : Type 0} (test : A → Option B) (xs : List A) → ((x : 
 first_none test [] h = refl
 first_none test (a ∷ rest) h = first_none-cons test a rest (h a (inl refl)) ∙ first_none test rest (λ x i. h x (inr i))
 
-or_else_none : {B : Type 0} (o later : Option B) → or_else o later ≡ None → (o ≡ None) × (later ≡ None)
+pub or_else_none : {B : Type 0} (o later : Option B) → or_else o later ≡ None → (o ≡ None) × (later ≡ None)
 or_else_none None later e = (refl, e)
 or_else_none (Some b) later e = cc
 
@@ -54,3 +55,51 @@ first_left-some test xs i d b h e = ap (first test) (drop_more xs i d h) ∙ ap 
 
 pub first_left-end : {A B : Type 0} (test : A → Option B) (xs : List A) (i : ℕ) → length xs ≤ i → first test (drop i xs) ≡ None
 first_left-end test xs i h = ap (first test) (drop_all i xs h)
+
+-- a value of an answer is the answer of the search for values
+pub option_map-first : {A B C : Type 0} (f : B → C) (test : A → Option B) (xs : List A) → option_map f (first test xs) ≡ first (λ x. option_map f (test x)) xs
+option_map-first f test [] = refl
+option_map-first {A} {B} {C} f test (x ∷ xs) = at (test x) (option_map-first f test xs)
+  where
+    at : (o : Option B) → option_map f (first test xs) ≡ first (λ x. option_map f (test x)) xs → option_map f (or_else o (first test xs)) ≡ or_else (option_map f o) (first (λ x. option_map f (test x)) xs)
+    at (Some b) ih = refl
+    at None ih = ih
+
+pub option_map-some_if : {A B : Type 0} (f : A → B) (test : Bool) (a : A) → option_map f (some_if test a) ≡ some_if test (f a)
+option_map-some_if f true a = refl
+option_map-some_if f false a = refl
+
+or_else_assoc : {B : Type 0} (o p q : Option B) → or_else (or_else o p) q ≡ or_else o (or_else p q)
+or_else_assoc (Some b) p q = refl
+or_else_assoc None p q = refl
+
+pub first-append : {A B : Type 0} (test : A → Option B) (xs ys : List A) → first test (xs ++ ys) ≡ or_else (first test xs) (first test ys)
+first-append test [] ys = refl
+first-append test (x ∷ xs) ys = ap (or_else (test x)) (first-append test xs ys) ∙ sym (or_else_assoc (test x) (first test xs) (first test ys))
+
+pub first-map : {A B C : Type 0} (test : B → Option C) (f : A → B) (xs : List A) → first test (map f xs) ≡ first (λ x. test (f x)) xs
+first-map test f [] = refl
+first-map test f (x ∷ xs) = ap (or_else (test (f x))) (first-map test f xs)
+
+-- a search along joined lists is a search for the first list with an answer
+pub first-flat_map : {A B C : Type 0} (test : B → Option C) (f : A → List B) (xs : List A) → first test (flat_map f xs) ≡ first (λ x. first test (f x)) xs
+first-flat_map test f [] = refl
+first-flat_map test f (x ∷ xs) = first-append test (f x) (flat_map f xs) ∙ ap (or_else (first test (f x))) (first-flat_map test f xs)
+
+-- an answer of the first search, or else one of the second where the first has none
+pub or_else_cases : {B : Type 0} (o later : Option B) (b : B) → or_else o later ≡ Some b → (o ≡ Some b) ⊎ ((o ≡ None) × (later ≡ Some b))
+or_else_cases None later b e = inr (refl, e)
+or_else_cases (Some c) later b e = inl e
+
+-- a search among the members that pass a test
+pub first-filter : {A B : Type 0} (test : A → Option B) (p : A → Bool) (xs : List A) → first test (filter p xs) ≡ first (λ x. cond (p x) (test x) None) xs
+first-filter test p [] = refl
+first-filter {A} {B} test p (x ∷ xs) = at (p x) (first-filter test p xs)
+  where
+    at : (b : Bool) → first test (filter p xs) ≡ first (λ x. cond (p x) (test x) None) xs → first test (cond b (x ∷ filter p xs) (filter p xs)) ≡ or_else (cond b (test x) None) (first (λ x. cond (p x) (test x) None) xs)
+    at true ih = ap (or_else (test x)) ih
+    at false ih = ih
+
+pub some_if-some : {A : Type 0} (test : Bool) (a b : A) → some_if test a ≡ Some b → (test ≡ true) × (Some a ≡ Some b)
+some_if-some true a b e = (refl, e)
+some_if-some false a b e = cc

@@ -1,5 +1,5 @@
 -- Members of joined, mapped and filtered lists and of sublists, and lists with no member twice.
-use Rattle.std.proofs.Common.{◌≡◌, ℕ, zero, suc, ◌<◌, Bool, true, false, cond, ◌⊎◌, inl, inr, List, [], ◌∷◌, ◌++◌, length, get_or, map, filter, refl, sym, ◌∙◌, ap, subst, arith}
+use Rattle.std.proofs.Common.{◌≡◌, ℕ, zero, suc, ◌<◌, Bool, true, false, cond, ◌&&◌, ◌⊎◌, inl, inr, List, [], ◌∷◌, ◌++◌, length, get_or, take, map, filter, refl, sym, ◌∙◌, ap, subst, arith}
 use Rattle.std.specs.List.{list_any, list_all, flat_map, Contains}
 use Rattle.std.proofs.lemmas.Bool.{and_left, and_right, and_parts, or_cases, or_left, or_right}
 use Rattle.finite_lists.specs.Members.{In, Distinct}
@@ -95,6 +95,17 @@ pub filter_same : {A : Type 0} (p q : A → Bool) (xs : List A) → ((x : A) →
 filter_same p q [] h = refl
 filter_same p q (y ∷ xs) h = rw (h y (inl refl), filter_same p q xs (λ x k. h x (inr k))) refl
 
+-- two tests, one after the other
+pub filter_filter : {A : Type 0} (p q : A → Bool) (xs : List A) → filter p (filter q xs) ≡ filter (λ x. p x && q x) xs
+filter_filter p q [] = refl
+filter_filter {A} p q (y ∷ xs) = at (p y) (q y) refl (filter_filter p q xs)
+  where
+    at : (a b : Bool) → p y ≡ a → filter p (filter q xs) ≡ filter (λ x. p x && q x) xs → filter p (cond b (y ∷ filter q xs) (filter q xs)) ≡ cond (a && b) (y ∷ filter (λ x. p x && q x) xs) (filter (λ x. p x && q x) xs)
+    at true true e ih = ap (λ a. cond a (y ∷ filter p (filter q xs)) (filter p (filter q xs))) e ∙ ap (λ l. y ∷ l) ih
+    at false true e ih = ap (λ a. cond a (y ∷ filter p (filter q xs)) (filter p (filter q xs))) e ∙ ih
+    at true false e ih = ih
+    at false false e ih = ih
+
 pub map_same : {A B : Type 0} (f g : A → B) (xs : List A) → ((x : A) → In xs x → f x ≡ g x) → map f xs ≡ map g xs
 map_same f g [] h = refl
 map_same f g (y ∷ xs) h = rw (h y (inl refl), map_same f g xs (λ x k. h x (inr k))) refl
@@ -189,3 +200,11 @@ pub all_fails : {A : Type 0} (p : A → Bool) (xs : List A) (x : A) → In xs x 
 all_fails p [] x i e = absurd i
 all_fails p (y ∷ xs) x (inl s) e = and_left (p y) (list_all p xs) (ap p s ∙ e)
 all_fails p (y ∷ xs) x (inr i) e = and_right (p y) (list_all p xs) (all_fails p xs x i e)
+
+-- a member of a front is a member
+pub In_take : {A : Type 0} (xs : List A) (n : ℕ) (x : A) → In (take n xs) x → In xs x
+In_take [] zero x i = i
+In_take [] (suc n) x i = i
+In_take (y ∷ xs) zero x i = absurd i
+In_take (y ∷ xs) (suc n) x (inl e) = inl e
+In_take (y ∷ xs) (suc n) x (inr i) = inr (In_take xs n x i)

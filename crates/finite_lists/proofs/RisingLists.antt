@@ -1,5 +1,5 @@
 -- Filters, maps and joined lists of rising lists rise, and so does the list of sublists.
-use Rattle.std.proofs.Common.{ℕ, zero, suc, ◌+◌, ◌<◌, Bool, true, false, cond, inl, inr, List, [], ◌∷◌, ◌++◌, map, filter, refl, sym, subst, arith}
+use Rattle.std.proofs.Common.{◌≡◌, ℕ, zero, suc, ◌+◌, ◌<◌, Bool, true, false, cond, ◌⊎◌, inl, inr, List, [], ◌∷◌, ◌++◌, map, filter, refl, sym, ap, ◌∙◌, subst, arith}
 use Rattle.std.specs.List.{range_with_len, flat_map}
 use Rattle.finite_lists.specs.Members.{In, Distinct}
 use Rattle.finite_lists.specs.Rising.{Rising, SublistBelow}
@@ -79,3 +79,36 @@ pub SublistBelow-irreflexive : {A : Type 0} (l s : List A) → SublistBelow l s 
 SublistBelow-irreflexive [] s h = h
 SublistBelow-irreflexive (x ∷ l) s (inl h) = h.0 h.1
 SublistBelow-irreflexive (x ∷ l) s (inr h) = SublistBelow-irreflexive l s h.2
+
+-- an order in which no two members are below each other
+abbrev pub IsAsymmetric : {A : Type 0} → (A → A → Type 0) → Type 0
+IsAsymmetric {A} below = (x y : A) → below x y → below y x → ⊥
+
+-- two rising lists with the same members are equal
+pub rising_same : {A : Type 0} (below : A → A → Type 0) (xs ys : List A) → IsAsymmetric below → Rising below xs → Rising below ys →
+    ((x : A) → In xs x → In ys x) → ((x : A) → In ys x → In xs x) → xs ≡ ys
+rising_same below [] [] one r s h k = refl
+rising_same below [] (y ∷ ys) one r s h k = absurd (k y (inl refl))
+rising_same below (x ∷ xs) [] one r s h k = absurd (h x (inl refl))
+rising_same {A} below (x ∷ xs) (y ∷ ys) one r s h k =
+    let e : x ≡ y = heads (h x (inl refl)) (k y (inl refl)) in
+    ap (λ z. z ∷ xs) e ∙ ap (λ l. y ∷ l) (rising_same below xs ys one r.1 s.1
+    (λ z i. later y ys z (λ d. one x x (subst (below x) (sym (e ∙ d)) (r.0 z i)) (subst (below x) (sym (e ∙ d)) (r.0 z i))) (h z (inr i)))
+    (λ z i. later x xs z (λ d. one y y (subst (below y) (sym (sym e ∙ d)) (s.0 z i)) (subst (below y) (sym (sym e ∙ d)) (s.0 z i))) (k z (inr i))))
+  where
+    heads : In (y ∷ ys) x → In (x ∷ xs) y → x ≡ y
+    heads (inl e) j = sym e
+    heads (inr i) (inl e) = e
+    heads (inr i) (inr j) = absurd (one x y (r.0 y j) (s.0 x i))
+
+    later : (y : A) (ys : List A) (z : A) → (y ≡ z → ⊥) → In (y ∷ ys) z → In ys z
+    later y ys z other (inl e) = absurd (other e)
+    later y ys z other (inr i) = i
+
+-- two members of a rising list are equal, or one is below the other
+pub rising_cases : {A : Type 0} (below : A → A → Type 0) (xs : List A) (x y : A) → Rising below xs → In xs x → In xs y → (x ≡ y) ⊎ (below x y ⊎ below y x)
+rising_cases below [] x y r i j = absurd i
+rising_cases below (z ∷ xs) x y r (inl d) (inl e) = inl (sym d ∙ e)
+rising_cases {A} below (z ∷ xs) x y r (inl d) (inr j) = inr (inl (subst (λ (w : A). below w y) d (r.0 y j)))
+rising_cases {A} below (z ∷ xs) x y r (inr i) (inl e) = inr (inr (subst (λ (w : A). below w x) e (r.0 x i)))
+rising_cases below (z ∷ xs) x y r (inr i) (inr j) = rising_cases below xs x y r.1 i j

@@ -3,7 +3,7 @@ use Rattle.std.proofs.Common.{◌≡◌, ℕ, ◌<◌, List, length, get_or, map
 use Rattle.std.specs.List.{range_with_len}
 use Rattle.std.proofs.lemmas.List.{ext_get_or}
 use Rattle.std.proofs.lemmas.List.FromFn.{get_or-map-range_with_len, length-map-range_with_len}
-use Rattle.topos_model.specs.Listed.{entry_at}
+use Rattle.topos_model.specs.categories.Listed.{entry_at}
 
 -- a row with the number that is listed for each element from place i on
 pub record HasEntriesFrom (entries : List (ℕ × ℕ)) (size i : ℕ) (row : List ℕ) : Type 0 where

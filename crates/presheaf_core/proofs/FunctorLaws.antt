@@ -1,125 +1,31 @@
--- A presheaf that is listed whole and has no fault is a functor, and a functor has no fault.
-use Rattle.std.proofs.Common.{◌≡◌, ℕ, ◌+◌, ◌<◌, ◌≤◌, Bool, true, false, not, inl, inr, List, [], ◌∷◌, length, get_or, map, eqb, ltb, refl, sym, ◌∙◌, ap, arith, Option, Some, None}
+-- A functor has no failing instance, and an instance that is given fails.
+use Rattle.std.proofs.Common.{◌≡◌, ℕ, ◌+◌, ◌<◌, Bool, true, false, not, length, eqb, refl, sym, ◌∙◌, ap, arith, Option, Some, None}
 use Rattle.std.specs.List.{range_with_len}
-use Rattle.std.proofs.lemmas.Bool.{eqb-true, eqb-false, eq-eqb, ne_eqb, not-true, lt-ltb, le-ltb, cases_Bool}
-use Rattle.std.proofs.lemmas.List.FromFn.{get_or-map-range_with_len, get_or-range_with_len, length-map-range_with_len, length-range_with_len}
-use borrow.Author.Tests.{ltb-true, ltb-false}
-use Rattle.finite_lists.specs.First.{first, or_else, some_if}
+use Rattle.std.specs.Option.{option_map}
+use Rattle.std.proofs.lemmas.Bool.{eqb-true, eqb-false, eq-eqb, ne_eqb, not-true, not-false}
+use Rattle.finite_lists.specs.First.{first, some_if}
 use Rattle.finite_lists.proofs.DistinctLists.{In-range, In-range_from}
-use Rattle.finite_lists.proofs.FirstAnswers.{first_none, first_none_each, some_if-false, first_some_each, first_same}
-use Rattle.topos_model.specs.declared.raw.RawFunctor.{RawFunctor}
+use Rattle.finite_lists.proofs.FirstAnswers.{first_none, first_none_each, some_if-false, first_some_each, first_same, option_map-first, option_map-some_if}
 use Rattle.topos_model.specs.declared.fault.Fault.{Fault}
 use Rattle.topos_model.specs.declared.fault.Fault.TheVariants.{NotFunctorial}
-use Rattle.topos_model.specs.Category.{Category, dom, cod, arrows, into, compose}
-use Rattle.topos_model.specs.Types.{Presheaf}
-use Rattle.topos_model.specs.Laws.{act, size, IsInto, AreComposable, IsCategory, IsFunctor}
-use Rattle.topos_model.specs.Listed.{entry_at, entries_along, listed_row, listed_presheaf}
+use Rattle.topos_model.specs.categories.Category.{Category, dom, cod, arrows, into, compose}
+use Rattle.topos_model.specs.types.Types.{Presheaf}
+use Rattle.topos_model.specs.Laws.{act, size, IsInto, AreComposable, IsFunctor}
 use Rattle.topos_model.specs.Faults.{functoriality_fault}
-use Rattle.topos_model.specs.Form.{is_whole_presheaf}
 use Rattle.topos_model.proofs.ArrowsInto.{In-into, In-into_from}
-use Rattle.presheaf_core.specs.Rows.{AreRows}
-use Rattle.presheaf_core.specs.Functoriality.{instance_at, instance_from_pair, instance_from, failing_instance, fault_of}
-use Rattle.presheaf_core.proofs.WholePresheaf.{IsWholePresheaf, whole_presheaf}
+use Rattle.presheaf_core.specs.Functoriality.{instance_at, instance_from_pair, instance_from, failing_instance}
 
--- the row of f in the listed presheaf
-row_at : (k : Category) (raw : RawFunctor) (f : ℕ) → f < length k.ends → get_or (listed_presheaf k raw).along f [] ≡ listed_row k raw f
-unfolding listed_presheaf
-row_at k raw f low = get_or-map-range_with_len (listed_row k raw) 0 (length k.ends) f f [] low (omega arith)
+abbrev fails : Category → Presheaf → ℕ → ℕ → ℕ → Option Fault
+fails k X g f x = some_if (not (eqb (act X f (act X g x)) (act X (compose k g f) x))) (NotFunctorial g f x)
 
-sizes_at : (k : Category) (raw : RawFunctor) → (listed_presheaf k raw).sizes ≡ raw.sizes
-unfolding listed_presheaf
-sizes_at k raw = refl
-
-along_length : (k : Category) (raw : RawFunctor) → length (listed_presheaf k raw).along ≡ length k.ends
-unfolding listed_presheaf
-along_length k raw = length-map-range_with_len (listed_row k raw) 0 (length k.ends)
-
-row_length : (k : Category) (raw : RawFunctor) (f : ℕ) → length (listed_row k raw f) ≡ get_or raw.sizes (cod k f) 0
-unfolding listed_row
-row_length k raw f =
-    elim (cases_Bool (ltb f k.objects)) [
-      | inl b ↦ rw b (length-range_with_len 0 (get_or raw.sizes (cod k f) 0))
-      | inr b ↦ rw b (length-map-range_with_len (entry_at (entries_along raw.along f)) 0 (get_or raw.sizes (cod k f) 0))
-    ]
-
-identity_at : (k : Category) (raw : RawFunctor) (f x : ℕ) → ltb f k.objects ≡ true → x < get_or raw.sizes (cod k f) 0 → get_or (listed_row k raw f) x 0 ≡ x
-unfolding listed_row
-identity_at k raw f x b low = rw b (get_or-range_with_len 0 (get_or raw.sizes (cod k f) 0) x 0 low ∙ omega arith)
-
-declared_at : (k : Category) (raw : RawFunctor) (f x : ℕ) → ltb f k.objects ≡ false → x < get_or raw.sizes (cod k f) 0 → get_or (listed_row k raw f) x 0 ≡ entry_at (entries_along raw.along f) x
-unfolding listed_row
-declared_at k raw f x b low = rw b (get_or-map-range_with_len (entry_at (entries_along raw.along f)) 0 (get_or raw.sizes (cod k f) 0) x x 0 low (omega arith))
-
-pub listed_row-identity : (k : Category) (raw : RawFunctor) (f : ℕ) → f < k.objects → range_with_len 0 (get_or raw.sizes (cod k f) 0) ≡ listed_row k raw f
-unfolding listed_row
-listed_row-identity k raw f low = rw (lt-ltb f k.objects low) refl
-
-pub listed_row-declared : (k : Category) (raw : RawFunctor) (f : ℕ) → k.objects ≤ f →
-    map (entry_at (entries_along raw.along f)) (range_with_len 0 (get_or raw.sizes (cod k f) 0)) ≡ listed_row k raw f
-unfolding listed_row
-listed_row-declared k raw f high = rw (le-ltb f k.objects high) refl
-
-pub listed_parts : (k : Category) (raw : RawFunctor) (sizes : List ℕ) (along : List (List ℕ)) → sizes ≡ raw.sizes → along ≡ map (listed_row k raw) (arrows k) →
-    ◌≡◌ {A = Presheaf} (record { sizes = sizes; along = along }) (listed_presheaf k raw)
-unfolding listed_presheaf
-listed_parts k raw sizes along e f = rw (e, f) refl
-
-act_at : (k : Category) (raw : RawFunctor) (f x : ℕ) → f < length k.ends → act (listed_presheaf k raw) f x ≡ get_or (listed_row k raw f) x 0
-act_at k raw f x low = ap (λ row. get_or row x 0) (row_at k raw f low)
-
-same_numbers : (m n : ℕ) → not (eqb m n) ≡ false → m ≡ n
-same_numbers m n e = eqb-true m n (elim (cases_Bool (eqb m n)) [ inl b ↦ b | inr b ↦ absurd (let c : not (eqb m n) ≡ true = ap not b in let d : ◌≡◌ {A = Bool} true false = sym c ∙ e in cc) ])
-
-module _ (k : Category) (lawful : IsCategory k) (raw : RawFunctor) (whole : is_whole_presheaf k.objects k.ends raw ≡ true) where
-  facts : IsWholePresheaf k.objects k.ends raw
-  facts = whole_presheaf k.objects k.ends raw whole
-
-  abbrev X : Presheaf
-  X = listed_presheaf k raw
-
-  -- an identity goes from its object to it
-  identity_ends : (f : ℕ) → f < k.objects → (cod k f ≡ f) × (dom k f ≡ f)
-  identity_ends f low = let i = lawful.identity f low in (i.0.1, i.1)
-
-  below : (f x : ℕ) → f < length k.ends → x < get_or raw.sizes (cod k f) 0 → get_or (listed_row k raw f) x 0 < get_or raw.sizes (dom k f) 0
-  below f x low xs =
-      elim (cases_Bool (ltb f k.objects)) [
-        | inl b ↦
-            let e = identity_ends f (ltb-true f k.objects b) in
-            rw (identity_at k raw f x b xs) (rw e.1 (rw e.0 at xs))
-        | inr b ↦
-            let declared : k.objects ≤ f = ltb-false f k.objects b in
-            rw (declared_at k raw f x b xs) (facts.fits f x (facts.entered f x declared low xs))
-      ]
-
-  abbrev fails : ℕ → ℕ → ℕ → Option Fault
-  fails g f x = some_if (not (eqb (act X f (act X g x)) (act X (compose k g f) x))) (NotFunctorial g f x)
-
-  pub rows_of_whole : AreRows k X
-  unfolding listed_presheaf
-  rows_of_whole = record {
-    objects = ap length (sizes_at k raw) ∙ facts.sizes;
-    arrows = along_length k raw;
-    total = λ c f i. rw (row_at k raw f i.0) (row_length k raw f ∙ ap (λ sizes. get_or sizes (cod k f) 0) (sym (sizes_at k raw)) ∙ ap (size X) i.1);
-    within = λ c f x i low. rw (act_at k raw f x i.0) (below f x i.0 (rw i.1 low));
-  }
-
-  pub functor_of_whole : functoriality_fault k X ≡ None → IsFunctor k X
-  unfolding functoriality_fault listed_presheaf
-  functor_of_whole none = record {
-    objects = rows_of_whole.objects;
-    arrows = rows_of_whole.arrows;
-    total = rows_of_whole.total;
-    within = rows_of_whole.within;
-    identity = λ c x low xs.
-        let i = lawful.identity c low in
-        act_at k raw c x i.0.0 ∙ identity_at k raw c x (grind arith) (rw i.0.1 xs);
-    composite = λ c f g x i j low.
-        let at_f = first_none_each (λ g. first (λ f. first (λ x. fails g f x) (range_with_len 0 (size X (cod k g)))) (into k (dom k g))) (arrows k) f none (In-range 0 (length k.ends) f (omega arith) (omega (arith, i.0))) in
-        let at_g = first_none_each (λ g. first (λ x. fails f g x) (range_with_len 0 (size X (cod k f)))) (into k (dom k f)) g at_f (In-into k (dom k f) g j) in
-        let at_x = first_none_each (fails f g) (range_with_len 0 (size X (cod k f))) x at_g (In-range 0 (size X (cod k f)) x (omega arith) (omega (arith, rw (sym i.1) at low))) in
-        same_numbers _ _ (some_if-false _ _ at_x);
-  }
+-- where there is no failing instance, restriction along a composite is restriction along one arrow and then the other
+pub no_fault_composes : (k : Category) (X : Presheaf) → functoriality_fault k X ≡ None → (c f g x : ℕ) → IsInto k c f → IsInto k (dom k f) g → x < size X c → act X g (act X f x) ≡ act X (compose k f g) x
+unfolding functoriality_fault
+no_fault_composes k X none c f g x i j low =
+    let at_f = first_none_each (λ g. first (λ f. first (fails k X g f) (range_with_len 0 (size X (cod k g)))) (into k (dom k g))) (arrows k) f none (In-range 0 (length k.ends) f (omega arith) (omega (arith, i.0))) in
+    let at_g = first_none_each (λ g. first (fails k X f g) (range_with_len 0 (size X (cod k f)))) (into k (dom k f)) g at_f (In-into k (dom k f) g j) in
+    let at_x = first_none_each (fails k X f g) (range_with_len 0 (size X (cod k f))) x at_g (In-range 0 (size X (cod k f)) x (omega arith) (omega (arith, rw (sym i.1) at low))) in
+    eqb-true _ _ (not-false _ (some_if-false _ _ at_x))
 
 pub functor_has_no_fault : (k : Category) (P : Presheaf) → IsFunctor k P → functoriality_fault k P ≡ None
 unfolding functoriality_fault
@@ -133,30 +39,17 @@ functor_has_no_fault k P laws =
     no_fault : (m n : ℕ) (fault : Fault) → m ≡ n → some_if (not (eqb m n)) fault ≡ None
     no_fault m n fault e = rw (eq-eqb m n e) refl
 
--- the fault of a search's answer is the answer of the search for faults
-fault_of-first : {A : Type 0} (test : A → Option (ℕ × ℕ × ℕ)) (xs : List A) → fault_of (first test xs) ≡ first (λ x. fault_of (test x)) xs
-fault_of-first test [] = refl
-fault_of-first {A} test (x ∷ xs) = at (test x) (fault_of-first test xs)
-  where
-    at : (o : Option (ℕ × ℕ × ℕ)) → fault_of (first test xs) ≡ first (λ x. fault_of (test x)) xs → fault_of (or_else o (first test xs)) ≡ or_else (fault_of o) (first (λ x. fault_of (test x)) xs)
-    at (Some t) ih = refl
-    at None ih = ih
+-- the fault of a failing instance
+abbrev pub instance_fault : ℕ × ℕ × ℕ → Fault
+instance_fault t = NotFunctorial t.0 t.1 t.2
 
-fault_of-some_if : (b : Bool) (g f x : ℕ) → fault_of (some_if b (g, f, x)) ≡ some_if b (NotFunctorial g f x)
-fault_of-some_if true g f x = refl
-fault_of-some_if false g f x = refl
-
-pub fault_of-failing_instance : (k : Category) (P : Presheaf) → fault_of (failing_instance k P) ≡ functoriality_fault k P
+pub fault-failing_instance : (k : Category) (P : Presheaf) → option_map instance_fault (failing_instance k P) ≡ functoriality_fault k P
 unfolding functoriality_fault instance_at instance_from_pair instance_from failing_instance
-fault_of-failing_instance k P =
-    fault_of-first (instance_from k P) (arrows k)
-    ∙ first_same _ _ (arrows k) (λ g i. fault_of-first (instance_from_pair k P g) (into k (dom k g))
-    ∙ first_same _ _ (into k (dom k g)) (λ f j. fault_of-first (instance_at k P g f) (range_with_len 0 (size P (cod k g)))
-    ∙ first_same _ _ (range_with_len 0 (size P (cod k g))) (λ x l. fault_of-some_if (not (eqb (act P f (act P g x)) (act P (compose k g f) x))) g f x)))
-
--- the fault that a search along an equal presheaf gives
-pub fault_given : (k : Category) (P Q : Presheaf) (found : Option (ℕ × ℕ × ℕ)) → P ≡ Q → found ≡ failing_instance k P → functoriality_fault k Q ≡ fault_of found
-fault_given k P Q found same e = ap (functoriality_fault k) (sym same) ∙ sym (fault_of-failing_instance k P) ∙ ap fault_of (sym e)
+fault-failing_instance k P =
+    option_map-first instance_fault (instance_from k P) (arrows k)
+    ∙ first_same _ _ (arrows k) (λ g i. option_map-first instance_fault (instance_from_pair k P g) (into k (dom k g))
+    ∙ first_same _ _ (into k (dom k g)) (λ f j. option_map-first instance_fault (instance_at k P g f) (range_with_len 0 (size P (cod k g)))
+    ∙ first_same _ _ (range_with_len 0 (size P (cod k g))) (λ x l. option_map-some_if instance_fault (not (eqb (act P f (act P g x)) (act P (compose k g f) x))) (g, f, x))))
 
 pub instance_at-fails : (k : Category) (P : Presheaf) (g f x : ℕ) → (act P f (act P g x) ≡ act P (compose k g f) x → ⊥) → instance_at k P g f x ≡ Some (g, f, x)
 unfolding instance_at

@@ -1,8 +1,12 @@
 pub mod Tables
-pub mod DistinctNumbers
-pub mod WholeSteps
-pub mod WholePresheaf
 pub mod SearchFrom
 pub mod EntryRows
+pub mod ListedEntries
+pub mod FillingPairs
+pub mod FilledRows
+pub mod RowSteps
 pub mod FunctorLaws
-mod SwappedElements
+pub mod CellSums
+pub mod FilledPresheaves
+pub mod FilledPresheafIsOne
+pub mod FirstFillings

@@ -1,10 +1,8 @@
 -- The first failing instance of functoriality, by one search for each arrow.
-use Rattle.std.specs.Prelude.{ℕ, not, eqb, Option, Some, None}
+use Rattle.std.specs.Prelude.{ℕ, not, eqb, Option}
 use Rattle.std.specs.List.{range_with_len}
-use Rattle.topos_model.specs.declared.fault.Fault.{Fault}
-use Rattle.topos_model.specs.declared.fault.Fault.TheVariants.{NotFunctorial}
-use Rattle.topos_model.specs.Category.{Category, into, dom, cod, compose, arrows}
-use Rattle.topos_model.specs.Types.{Presheaf}
+use Rattle.topos_model.specs.categories.Category.{Category, into, dom, cod, compose, arrows}
+use Rattle.topos_model.specs.types.Types.{Presheaf}
 use Rattle.topos_model.specs.Laws.{act, size}
 use Rattle.finite_lists.specs.First.{first, some_if}
 
@@ -23,8 +21,3 @@ instance_from k X g = first (instance_from_pair k X g) (into k (dom k g))
 -- the first of all
 unfoldable pub failing_instance : Category → Presheaf → Option (ℕ × ℕ × ℕ)
 failing_instance k X = first (instance_from k X) (arrows k)
-
--- the fault that a failing instance is
-abbrev pub fault_of : Option (ℕ × ℕ × ℕ) → Option Fault
-fault_of None = None
-fault_of (Some t) = Some (NotFunctorial t.0 t.1 t.2)

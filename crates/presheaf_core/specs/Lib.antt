@@ -1,6 +1,7 @@
 pub mod Tables
-pub mod Whole
 pub mod Rows
+pub mod Filling
 pub mod Functoriality
 pub mod Faults
+pub mod FillingFaults
 pub mod Laws

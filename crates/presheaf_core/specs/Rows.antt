@@ -1,7 +1,7 @@
 -- Presheaves whose rows have the right lengths and hold elements.
 use Rattle.std.specs.Prelude.{◌≡◌, ℕ, ◌<◌, [], length, get_or}
-use Rattle.topos_model.specs.Category.{Category, dom}
-use Rattle.topos_model.specs.Types.{Presheaf}
+use Rattle.topos_model.specs.categories.Category.{Category, dom}
+use Rattle.topos_model.specs.types.Types.{Presheaf}
 use Rattle.topos_model.specs.Laws.{act, size, IsInto}
 
 -- one size for each object, and for each arrow a row of elements at its domain, one for each element at its codomain

@@ -1,6 +1,6 @@
 // The first instance at which restriction along a composite is other than restriction along one arrow and then the other.
 ghost use Rattle.std.specs.Prelude.{◌≡◌, ◌<◌, length};
-ghost use Rattle.topos_model.specs.Category.{dom, cod};
+ghost use Rattle.topos_model.specs.categories.Category.{dom, cod};
 ghost use Rattle.presheaf_core.specs.Functoriality.{instance_from_pair, instance_from, failing_instance};
 ghost use Rattle.presheaf_core.specs.Rows.{AreRows};
 
@@ -15,10 +15,11 @@ fn instance_from_pair(cat: &Cat, functor: &Functor, g: u32, f: u32) -> Option<(u
     requires meet { cod cat.now f ≡ dom cat.now g }
     ensures { result ≡ instance_from_pair cat.now functor.now g f }
 {
-    let gf = cat.compose(g, f);
+    let first = functor.row(g);
+    let second = functor.row(f);
+    let both = functor.row(cat.compose(g, f));
     for x in 0..functor.size(cat.cod(g)) {
-        let xg = functor.restrict(g, x);
-        if functor.restrict(f, xg) != functor.restrict(gf, x) {
+        if second[first[x as usize] as usize] != both[x as usize] {
             return Some((g, f, x));
         }
     }

@@ -1,8 +1,13 @@
-ghost use Rattle.presheaf_core.specs.Laws.{WholeListingsAreFunctors, FunctorsHaveNoFault, FaultsAreInstances};
+// Laws of the check of a listed presheaf.
+ghost use Rattle.topos_model.specs.categories.Filling.{FillingPairsAreFirst};
+ghost use Rattle.topos_model.specs.presheaves.PresheafFaults.{FaultlessListingsAreOnePresheaf};
+ghost use Rattle.presheaf_core.specs.Laws.{FunctorsCompose, FailingInstancesFail};
 
-/// A presheaf that is listed whole on a category and has no failing instance is a functor, a functor has no failing instance, and an instance that is given fails.
+/// No fault is found exactly if some presheaf is filled and a functor, and then there is exactly one; a functor has no failing instance, and an instance that is
+/// given fails. The pair that fills a restriction is the first of all that do.
 pub fn presheaf_laws()
-    ensures sound { WholeListingsAreFunctors }
-    ensures complete { FunctorsHaveNoFault }
-    ensures instance { FaultsAreInstances }
+    ensures one { FaultlessListingsAreOnePresheaf }
+    ensures complete { FunctorsCompose }
+    ensures instance { FailingInstancesFail }
+    ensures filling { FillingPairsAreFirst }
 {}

@@ -1,14 +1,14 @@
-//! Presheaves of finite sets on a finite category: a listed one is checked, and its first failing instance is found.
+//! Presheaves of finite sets on a finite category: restrictions that are left out are filled, and the first fault of what is listed is found.
 #![tactic(auto)]
 
+mod entries;
 mod fault;
+mod filling;
 mod functor;
 mod functoriality;
 mod laws;
 mod rows;
-mod whole;
 
 pub use fault::FunctorFault;
 pub use functor::Functor;
 pub use laws::presheaf_laws;
-pub use whole::{MAX_ELEMENTS, is_whole};

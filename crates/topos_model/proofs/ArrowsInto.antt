@@ -5,7 +5,7 @@ use Rattle.std.proofs.lemmas.Bool.{eqb-true, eq-eqb}
 use Rattle.finite_lists.specs.Members.{In}
 use Rattle.finite_lists.proofs.Lists.{In-filter, In-filter_from}
 use Rattle.finite_lists.proofs.DistinctLists.{In-range, In-range_from}
-use Rattle.topos_model.specs.Category.{Category, cod, into, arrows}
+use Rattle.topos_model.specs.categories.Category.{Category, cod, into, arrows}
 use Rattle.topos_model.specs.Laws.{IsInto}
 
 -- the arrows into c

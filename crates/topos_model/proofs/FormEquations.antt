@@ -5,7 +5,9 @@ use Rattle.topos_model.specs.declared.ty.Ty.{Ty, Base, One, Omega, Two, Pow, Fun
 use Rattle.topos_model.specs.declared.ty.Ty.TheBlock.{hidden-the_row-Ty-0}
 use Rattle.topos_model.specs.declared.term.Term.{Term, Var, Star as StarTerm, Pair, Fst, Snd, App, Eval, Lam, Compr, Eq, Member, Truth, Falsity, And, Or, Implies, Not, Forall, Exists, Unique}
 use Rattle.topos_model.specs.declared.term.Term.TheBlock.{hidden-the_row-Term-0}
-use Rattle.topos_model.specs.Form.{is_functor_name, named, variable_functor, same_functor, is_propositional}
+use Rattle.topos_model.specs.statements.Needs.{named}
+use Rattle.topos_model.specs.statements.Cells.{is_named}
+use Rattle.topos_model.specs.statements.Form.{is_functor_name, is_known, variable_functor, same_functor, is_propositional}
 
 pub is_functor_name-Base : (n : ℕ) (m : ℕ) → is_functor_name n (Base m) ≡ ltb m n
 unfolding is_functor_name hidden-the_row-Ty-0 Carrier.hidden
@@ -56,6 +58,58 @@ unfolding named hidden-the_row-Ty-0 Carrier.hidden
 named-Fun S T = refl
 
 pub ruleset name_rules = (is_functor_name-Base, named-Base, is_functor_name-One, named-One, is_functor_name-Omega, named-Omega, is_functor_name-Two, named-Two, is_functor_name-Pow, named-Pow, is_functor_name-Fun, named-Fun)
+
+-- whether a type names one of the first functors, if it names one
+pub is_known-Base : (n : ℕ) (m : ℕ) → is_known n (Base m) ≡ ltb m n
+unfolding is_known hidden-the_row-Ty-0 Carrier.hidden
+is_known-Base n m = refl
+
+pub is_known-One : (n : ℕ) → is_known n One ≡ true
+unfolding is_known hidden-the_row-Ty-0 Carrier.hidden
+is_known-One n = refl
+
+pub is_known-Omega : (n : ℕ) → is_known n Omega ≡ true
+unfolding is_known hidden-the_row-Ty-0 Carrier.hidden
+is_known-Omega n = refl
+
+pub is_known-Two : (n : ℕ) (S T : Ty) → is_known n (Two S T) ≡ true
+unfolding is_known hidden-the_row-Ty-0 Carrier.hidden
+is_known-Two n S T = refl
+
+pub is_known-Pow : (n : ℕ) (T : Ty) → is_known n (Pow T) ≡ true
+unfolding is_known hidden-the_row-Ty-0 Carrier.hidden
+is_known-Pow n T = refl
+
+pub is_known-Fun : (n : ℕ) (S T : Ty) → is_known n (Fun S T) ≡ true
+unfolding is_known hidden-the_row-Ty-0 Carrier.hidden
+is_known-Fun n S T = refl
+
+-- whether a type names a functor
+pub is_named-Base : (m : ℕ) → is_named (Base m) ≡ true
+unfolding is_named hidden-the_row-Ty-0 Carrier.hidden
+is_named-Base m = refl
+
+pub is_named-One : is_named One ≡ false
+unfolding is_named hidden-the_row-Ty-0 Carrier.hidden
+is_named-One = refl
+
+pub is_named-Omega : is_named Omega ≡ false
+unfolding is_named hidden-the_row-Ty-0 Carrier.hidden
+is_named-Omega = refl
+
+pub is_named-Two : (S T : Ty) → is_named (Two S T) ≡ false
+unfolding is_named hidden-the_row-Ty-0 Carrier.hidden
+is_named-Two S T = refl
+
+pub is_named-Pow : (T : Ty) → is_named (Pow T) ≡ false
+unfolding is_named hidden-the_row-Ty-0 Carrier.hidden
+is_named-Pow T = refl
+
+pub is_named-Fun : (S T : Ty) → is_named (Fun S T) ≡ false
+unfolding is_named hidden-the_row-Ty-0 Carrier.hidden
+is_named-Fun S T = refl
+
+pub ruleset known_rules = (is_known-Base, is_known-One, is_known-Omega, is_known-Two, is_known-Pow, is_known-Fun, is_named-Base, is_named-One, is_named-Omega, is_named-Two, is_named-Pow, is_named-Fun)
 
 pub variable_functor-Var : (Γ : List ℕ) (k : ℕ) → variable_functor Γ (Var k) ≡ slice_get Γ k
 unfolding variable_functor hidden-the_row-Term-0 Carrier.hidden

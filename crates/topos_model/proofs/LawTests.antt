@@ -5,11 +5,11 @@ use Rattle.std.specs.List.{list_all, range_with_len}
 use Rattle.std.proofs.lemmas.Bool.{eqb-true, eq-eqb, ltb-true, cases_order}
 use Rattle.finite_lists.proofs.Lists.{all_each}
 use Rattle.finite_lists.proofs.DistinctLists.{In-range}
-use Rattle.topos_model.specs.Category.{Category, dom, cod, into, arrows, compose}
-use Rattle.topos_model.specs.Types.{Presheaf}
+use Rattle.topos_model.specs.categories.Category.{Category, dom, cod, into, arrows, compose}
+use Rattle.topos_model.specs.types.Types.{Presheaf}
 use Rattle.topos_model.specs.Laws.{act, size, IsFunctor}
-use Rattle.topos_model.specs.Maps.{Components, component, apply, IsNatural}
-use Rattle.topos_model.specs.Colimits.{IsLeastPlace, LeastPlacesRise}
+use Rattle.topos_model.specs.presheaves.Maps.{Components, component, apply, IsNatural}
+use Rattle.topos_model.specs.presheaves.Colimits.{IsLeastPlace, LeastPlacesRise}
 use Rattle.topos_model.proofs.ArrowsInto.{In-into, In-arrows}
 
 -- whether each number below n passes

@@ -1,4 +1,5 @@
 pub mod Nodes
+pub mod SameTypes
 pub mod ArrowsInto
 pub mod ValueEquations
 pub mod TypeEquations
@@ -7,6 +8,12 @@ pub mod FormEquations
 mod WorkedExamples
 mod LawTests
 pub mod MapEquations
+pub mod TypingEquations
+pub mod NeedsEquations
+pub mod PlainEquations
+pub mod TermChangeEquations
+pub mod CertificateEquations
+pub mod AppliedMapEquations
 pub mod ShortLists
 mod SmallCategories
 mod SmallSets
@@ -25,9 +32,13 @@ mod WorkedRestrictions
 mod WorkedRightExtension
 mod WorkedSheafOnIdempotent
 mod WorkedSheaves
+mod WorkedLocalForcing
 mod WorkedTopologies
 mod WorkedUniversals
 pub mod CertificateNodes
 mod WorkedTerms
 mod WorkedCertificates
 mod WorkedDerivations
+mod WorkedRuns
+mod WorkedVerdicts
+mod WorkedWhy

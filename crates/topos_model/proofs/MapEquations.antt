@@ -1,10 +1,10 @@
 -- Composites of natural maps, component by component, and natural maps by their values.
 use Rattle.std.proofs.Common.{◌≡◌, ℕ, zero, suc, ◌<◌, List, [], ◌∷◌, length, get_or, refl, sym, ap, subst, ◌∙◌, arith}
 use Rattle.std.proofs.lemmas.List.{ext_get_or, length-map, get_or-map}
-use Rattle.topos_model.specs.Category.{Category, dom}
-use Rattle.topos_model.specs.Types.{Presheaf}
+use Rattle.topos_model.specs.categories.Category.{Category, dom}
+use Rattle.topos_model.specs.types.Types.{Presheaf}
 use Rattle.topos_model.specs.Laws.{IsCategory, act, size, IsFunctor}
-use Rattle.topos_model.specs.Maps.{Components, component, apply, IsNatural, after_component, after, CompositesAreNatural, MapsAreValues}
+use Rattle.topos_model.specs.presheaves.Maps.{Components, component, apply, IsNatural, after_component, after, CompositesAreNatural, MapsAreValues}
 
 pub after-objects : (n m : Components) (l : ℕ) → length n ≡ l → length m ≡ l → length (after n m) ≡ l
 unfolding after

@@ -5,10 +5,10 @@ use Rattle.topos_model.specs.declared.ty.Ty.{Ty, One as OneTy}
 use Rattle.topos_model.specs.declared.term.Term.{Term, Var, Star as StarTerm, Pair, Fst, Snd, App, Eval, Lam, Compr, Eq, Member, Truth, Falsity, And, Or, Implies, Not, Forall, Exists, Unique}
 use Rattle.topos_model.specs.declared.term.Term.TheBlock.{hidden-the_row-Term-0}
 use Rattle.topos_model.specs.declared.value.Val.{Star, Two, Sv, Sub, Fn}
-use Rattle.topos_model.specs.Category.{has}
-use Rattle.topos_model.specs.Values.{same, first_of, second_of, arrows_of, entries_of, assigns_of}
-use Rattle.topos_model.specs.Types.{in_entries, at_place, places}
-use Rattle.topos_model.specs.Forcing.{World, Assigned, meaning, forces, value, values, source, along, onto, image_of, falsity_forced, and_forced, or_forced, implies_forced, not_forced, exists_forced, forall_forced, unique_forced}
+use Rattle.topos_model.specs.categories.Category.{has}
+use Rattle.topos_model.specs.types.Values.{same, first_of, second_of, arrows_of, entries_of, assigns_of}
+use Rattle.topos_model.specs.types.Types.{in_entries, at_place, places}
+use Rattle.topos_model.specs.formulas.Forcing.{World, Assigned, meaning, forces, value, values, source, along, onto, image_of, falsity_forced, and_forced, or_forced, implies_forced, not_forced, exists_forced, forall_forced, unique_forced}
 
 module _ (w : World) where
   pub value-Var : (k : ℕ) (c : ℕ) (a : Assigned) → value w (Var k) c a ≡ (get_or a k (OneTy, Star)).1

@@ -1,6 +1,6 @@
 -- Components and lists of few entries, by their entries.
 use Rattle.std.proofs.Common.{◌≡◌, ℕ, List, [], ◌∷◌, length, get_or, refl, ap, arith}
-use Rattle.topos_model.specs.Maps.{Components, component}
+use Rattle.topos_model.specs.presheaves.Maps.{Components, component}
 
 pub one_component : (m : Components) → length m ≡ 1 → m ≡ component m 0 ∷ []
 one_component [] e = absurd (omega arith)

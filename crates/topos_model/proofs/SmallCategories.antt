@@ -1,6 +1,6 @@
 -- Small categories for worked examples: one arrow, graphs, an idempotent and an involution.
 use Rattle.std.specs.Prelude.{[], ◌∷◌}
-use Rattle.topos_model.specs.Category.{Category}
+use Rattle.topos_model.specs.categories.Category.{Category}
 
 -- sets: a category with one arrow
 abbrev pub point : Category

@@ -1,10 +1,10 @@
 -- The sets of no, one and two elements, as presheaves on a category with one arrow, and the maps from and to them.
 use Rattle.std.proofs.Common.{◌≡◌, ℕ, zero, suc, ◌<◌, List, [], ◌∷◌, length, get_or, refl, sym, ap, ◌∙◌, arith}
 use Rattle.std.proofs.lemmas.List.{ext_get_or}
-use Rattle.topos_model.specs.Category.{into}
-use Rattle.topos_model.specs.Types.{Presheaf}
+use Rattle.topos_model.specs.categories.Category.{into}
+use Rattle.topos_model.specs.types.Types.{Presheaf}
 use Rattle.topos_model.specs.Laws.{act, size, IsFunctor}
-use Rattle.topos_model.specs.Maps.{Components, component, apply, IsNatural, after_component, after, ExactlyOne}
+use Rattle.topos_model.specs.presheaves.Maps.{Components, component, apply, IsNatural, after_component, after, ExactlyOne}
 use Rattle.topos_model.proofs.ShortLists.{one_component, one_entry, two_entries, no_entries}
 use Rattle.topos_model.proofs.LawTests.{lawful_functor, natural_map}
 use Rattle.topos_model.proofs.SmallCategories.{point}

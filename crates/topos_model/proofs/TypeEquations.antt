@@ -4,8 +4,8 @@ use denote.Hole.Carrier
 use Rattle.topos_model.specs.declared.ty.Ty.{Ty, Base, One, Omega, Two, Pow, Fun}
 use Rattle.topos_model.specs.declared.ty.Ty.TheBlock.{hidden-the_row-Ty-0}
 use Rattle.topos_model.specs.declared.value.Val.{Val, Star}
-use Rattle.topos_model.specs.Cover.{Site}
-use Rattle.topos_model.specs.Types.{Presheaf, functor, elements, restr, base_elements, base_along, omega_elements, omega_along, two_elements, two_along, pow_elements, pow_along, fun_elements, fun_along}
+use Rattle.topos_model.specs.topologies.Cover.{Site}
+use Rattle.topos_model.specs.types.Types.{Presheaf, functor, elements, restr, base_elements, base_along, omega_elements, omega_along, two_elements, two_along, pow_elements, pow_along, fun_elements, fun_along}
 
 module _ (s : Site) (functors : List Presheaf) where
   pub elements-Base : (n : ℕ) (c : ℕ) → elements s functors (Base n) c ≡ base_elements (functor s functors n) c

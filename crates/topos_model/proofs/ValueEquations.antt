@@ -4,7 +4,7 @@ use Rattle.topos_model.specs.declared.value.Val.{Val, El, Two, Sv, Sub, Fn}
 use Rattle.topos_model.specs.declared.value.Val.TheVariants.{outs-El, outs-Two, outs-Sv, outs-Sub, outs-Fn}
 use Rattle.topos_model.specs.declared.value.Entry.{Entry}
 use Rattle.topos_model.specs.declared.value.Assign.{Assign}
-use Rattle.topos_model.specs.Values.{same, number_in, first_in, second_in, arrows_in, entries_in, assigns_in, number_of, first_of, second_of, arrows_of, entries_of, assigns_of}
+use Rattle.topos_model.specs.types.Values.{same, number_in, first_in, second_in, arrows_in, entries_in, assigns_in, number_of, first_of, second_of, arrows_of, entries_of, assigns_of}
 
 pub number_of-El : (n : ℕ) → number_of (El n) ≡ n
 unfolding number_of

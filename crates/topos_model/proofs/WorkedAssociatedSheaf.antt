@@ -3,14 +3,14 @@ use Rattle.std.proofs.Common.{◌≡◌, ℕ, zero, suc, ◌<◌, inl, inr, List
 use Rattle.finite_lists.specs.Members.{In}
 use Rattle.finite_lists.specs.Rising.{Rising, SublistBelow}
 use Rattle.finite_lists.specs.Sublists.{sublists}
-use Rattle.topos_model.specs.Category.{into, dom, compose, is_sieve, sieves, generated, pull}
-use Rattle.topos_model.specs.Cover.{is_cover, is_dense, is_listed, covers}
-use Rattle.topos_model.specs.Types.{Presheaf}
+use Rattle.topos_model.specs.categories.Category.{into, dom, compose, is_sieve, sieves, generated, pull}
+use Rattle.topos_model.specs.topologies.Cover.{is_cover, is_dense, is_listed, covers}
+use Rattle.topos_model.specs.types.Types.{Presheaf}
 use Rattle.topos_model.specs.Laws.{IsInto, act, size}
-use Rattle.topos_model.specs.Listed.{all_ends, composable, listed_composite, listed_category}
-use Rattle.topos_model.specs.Maps.{Components, component, IsNatural, after, apply, ExactlyOne}
-use Rattle.topos_model.specs.Sheaves.{IsMatching, IsAmalgamation, IsSheaf, element_at}
-use Rattle.topos_model.specs.PlusConstruction.{IsAssociated, pairs, trace, traces}
+use Rattle.topos_model.specs.categories.Listed.{all_ends, composable, listed_composite, listed_category}
+use Rattle.topos_model.specs.presheaves.Maps.{Components, component, IsNatural, after, apply, ExactlyOne}
+use Rattle.topos_model.specs.topologies.Sheaves.{IsMatching, IsAmalgamation, IsSheaf, element_at}
+use Rattle.topos_model.specs.topologies.PlusConstruction.{IsAssociated, pairs, trace, traces}
 use Rattle.topos_model.proofs.ShortLists.{one_component, two_entries}
 use Rattle.topos_model.proofs.WorkedPlus.{idempotent, X, X_traces_rise}
 use Rattle.topos_model.proofs.WorkedSheafOnIdempotent.{k, A, e, target, object, two_at, A_functor, A_sheaf, e_natural}

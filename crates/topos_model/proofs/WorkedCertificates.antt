@@ -6,18 +6,18 @@ use Rattle.topos_model.specs.declared.term.Term.{Term, Var, Eq, Truth, Falsity, 
 use Rattle.topos_model.specs.declared.value.Val.{out-Val, El, Sv}
 use Rattle.topos_model.specs.declared.answer.WhyNode.{WhyNode, out-WhyNode, roll-WhyNode}
 use Rattle.topos_model.specs.declared.answer.Answer.TheVariants.{NotLocal}
-use Rattle.topos_model.specs.Category.{Category, into, is_sieve, sieves, generated, pull}
+use Rattle.topos_model.specs.categories.Category.{Category, into, is_sieve, sieves, generated, pull}
 use Rattle.finite_lists.specs.Sublists.{sublists}
-use Rattle.topos_model.specs.Cover.{Site, is_cover, is_dense, is_listed, covers}
-use Rattle.topos_model.specs.Types.{Presheaf, elements, places, closed_below, closed_under_covers, is_closed_sieve, at_place, in_entries, base_elements, base_along, omega_elements, omega_along, two_elements, two_along, pow_elements, pow_along}
-use Rattle.topos_model.specs.Forcing.{World, Assigned, meaning, value, forces, values, along, and_forced, or_forced, implies_forced, not_forced, exists_forced, forall_forced, unique_forced, locally, always, falsity_forced, image_of}
-use Rattle.topos_model.specs.Values.{same, number_of, first_of, second_of, arrows_of, entries_of}
-use Rattle.topos_model.specs.LeastCovers.{is_among_covers, least, closure}
-use Rattle.topos_model.specs.Plain.{is_simple, is_plain}
-use Rattle.topos_model.specs.CertificateNodes.{same_truth, side_of, arrow_of, extra_of, verdict, kids_of, agrees, count_yes}
-use Rattle.topos_model.specs.Certificates.{inhabited, on_part, on_element, and_shown, or_shown, implies_shown, not_shown, exists_shown, forall_shown, unique_shown, shows, is_cert}
-use Rattle.topos_model.specs.FirstCertificate.{node, and_children, or_children, implies_children, not_children, exists_children, forall_children, unique_children, part_of, first_cert}
-use Rattle.topos_model.specs.LocalOperators.{Operator, operated, maximal_fault, idempotence_fault, meet_fault, local_fault, operator_covers, top_of, op_of}
+use Rattle.topos_model.specs.topologies.Cover.{Site, is_cover, is_dense, is_listed, covers}
+use Rattle.topos_model.specs.types.Types.{Presheaf, elements, places, closed_below, closed_under_covers, is_closed_sieve, at_place, in_entries, base_elements, base_along, omega_elements, omega_along, two_elements, two_along, pow_elements, pow_along}
+use Rattle.topos_model.specs.formulas.Forcing.{World, Assigned, meaning, value, forces, values, along, and_forced, or_forced, implies_forced, not_forced, exists_forced, forall_forced, unique_forced, locally, always, falsity_forced, image_of}
+use Rattle.topos_model.specs.types.Values.{same, number_of, first_of, second_of, arrows_of, entries_of}
+use Rattle.topos_model.specs.topologies.LeastCovers.{is_among_covers, least, closure}
+use Rattle.topos_model.specs.formulas.Plain.{is_simple, is_plain}
+use Rattle.topos_model.specs.certificates.CertificateNodes.{same_truth, side_of, arrow_of, extra_of, verdict, kids_of, agrees, count_yes}
+use Rattle.topos_model.specs.certificates.Certificates.{inhabited, on_part, on_element, and_shown, or_shown, implies_shown, not_shown, exists_shown, forall_shown, unique_shown, shows, is_cert}
+use Rattle.topos_model.specs.certificates.FirstCertificate.{node, and_children, or_children, implies_children, not_children, exists_children, forall_children, unique_children, part_of, first_cert}
+use Rattle.topos_model.specs.topologies.LocalOperators.{Operator, operated, maximal_fault, idempotence_fault, meet_fault, local_fault, operator_covers, top_of, op_of}
 use denote.Hole.Carrier
 use Rattle.topos_model.specs.declared.answer.WhyNode.TheBlock.{shown-the_row-WhyNode-0}
 use Rattle.topos_model.specs.declared.term.Term.TheBlock.{hidden-the_row-Term-0}

@@ -1,10 +1,10 @@
 -- A worked example: the vertices a, b, c, d and an edge from a to c; a coequalizer that makes a, b and c one class, and lists that break a part of its property.
 use Rattle.std.proofs.Common.{◌≡◌, ℕ, zero, suc, ◌<◌, List, [], ◌∷◌, length, refl, sym, ap, subst, ◌∙◌, arith}
-use Rattle.topos_model.specs.Category.{dom, cod, into}
-use Rattle.topos_model.specs.Types.{Presheaf}
+use Rattle.topos_model.specs.categories.Category.{dom, cod, into}
+use Rattle.topos_model.specs.types.Types.{Presheaf}
 use Rattle.topos_model.specs.Laws.{act, size, IsFunctor}
-use Rattle.topos_model.specs.Maps.{Components, component, apply, IsNatural, after, ExactlyOne}
-use Rattle.topos_model.specs.Colimits.{LeastPlacesRise, IsCoequalizer}
+use Rattle.topos_model.specs.presheaves.Maps.{Components, component, apply, IsNatural, after, ExactlyOne}
+use Rattle.topos_model.specs.presheaves.Colimits.{LeastPlacesRise, IsCoequalizer}
 use Rattle.topos_model.proofs.ShortLists.{two_components, one_entry, two_entries, four_entries}
 use Rattle.topos_model.proofs.LawTests.{lawful_functor, natural_map, least_place, least_places_rise}
 use Rattle.topos_model.proofs.SmallCategories.{graph}

@@ -4,9 +4,9 @@ use Rattle.std.proofs.Common.{inl}
 use Rattle.topos_model.specs.declared.ty.Ty.{Ty, Base, Omega}
 use Rattle.topos_model.specs.declared.term.Term.{Term, Var, Eq, Or, Not, Compr, Forall, Exists, Member}
 use Rattle.topos_model.specs.declared.derivation.Step.{Step}
-use Rattle.topos_model.specs.TermChange.{changed, lift, substituted}
-use Rattle.topos_model.specs.Derivations.{Sequent, Hyp, Refl, Subst, Inst, SomeRule, AllRule}
-use Rattle.topos_model.specs.Rules.{Follows, IsStep}
+use Rattle.topos_model.specs.formulas.TermChange.{changed, lift, substituted}
+use Rattle.topos_model.specs.derivations.Derivations.{Sequent, Hyp, Refl, Subst, Inst, SomeRule, AllRule}
+use Rattle.topos_model.specs.derivations.Rules.{Follows, IsStep}
 use Rattle.topos_model.specs.declared.term.Term.TheBlock.{hidden-the_row-Term-0}
 use denote.Hole.Carrier
 

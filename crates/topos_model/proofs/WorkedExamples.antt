@@ -3,16 +3,16 @@ use Rattle.std.specs.Prelude.{◌≡◌, ℕ, true, false, [], ◌∷◌, map, r
 use Rattle.topos_model.specs.declared.ty.Ty.{Base, Omega, Pow, Fun}
 use Rattle.topos_model.specs.declared.term.Term.{Term, Member, Var, Eq, Implies, Falsity, Forall, Exists, Or, Not, Compr, Eval}
 use Rattle.topos_model.specs.declared.value.Val.{out-Val, El, Sv, Sub}
-use Rattle.topos_model.specs.Category.{Category, into, is_sieve, sieves, pull}
+use Rattle.topos_model.specs.categories.Category.{Category, into, is_sieve, sieves, pull}
 use Rattle.finite_lists.specs.Sublists.{sublists}
-use Rattle.topos_model.specs.Cover.{Site, is_cover, is_dense, is_listed, covers}
-use Rattle.topos_model.specs.Types.{Presheaf, elements, assignments, places, closed_below, closed_under_covers, is_closed_sieve, is_natural, at_place, in_entries, base_elements, base_along, omega_elements, omega_along, two_elements, two_along, pow_elements, pow_along, fun_elements, fun_along}
-use Rattle.topos_model.specs.Forcing.{World, Assigned, meaning, forces, value, values, along, and_forced, or_forced, implies_forced, not_forced, exists_forced, forall_forced, unique_forced, tuples, shown, locally, always, falsity_forced, image_of}
-use Rattle.topos_model.specs.Values.{same, number_of, first_of, second_of, arrows_of, entries_of, assigns_of}
+use Rattle.topos_model.specs.topologies.Cover.{Site, is_cover, is_dense, is_listed, covers}
+use Rattle.topos_model.specs.types.Types.{Presheaf, elements, assignments, places, closed_below, closed_under_covers, is_closed_sieve, is_natural, at_place, in_entries, base_elements, base_along, omega_elements, omega_along, two_elements, two_along, pow_elements, pow_along, fun_elements, fun_along}
+use Rattle.topos_model.specs.formulas.Forcing.{World, Assigned, meaning, forces, value, values, along, and_forced, or_forced, implies_forced, not_forced, exists_forced, forall_forced, unique_forced, tuples, shown, locally, always, falsity_forced, image_of}
+use Rattle.topos_model.specs.types.Values.{same, number_of, first_of, second_of, arrows_of, entries_of, assigns_of}
 use denote.Hole.Carrier
 use Rattle.std.specs.Prelude.{Some, None}
 use Rattle.topos_model.specs.declared.fault.Fault.TheVariants.{NotAssociative, NotFunctorial}
-use Rattle.topos_model.specs.Listed.{all_ends, composable, listed_composite, listed_category, listed_row, listed_presheaf}
+use Rattle.topos_model.specs.categories.Listed.{all_ends, composable, listed_composite, listed_category, listed_row, listed_presheaf}
 use Rattle.topos_model.specs.Faults.{associativity_fault, functoriality_fault}
 use Rattle.topos_model.specs.declared.term.Term.TheBlock.{hidden-the_row-Term-0}
 use Rattle.topos_model.specs.declared.ty.Ty.TheBlock.{hidden-the_row-Ty-0}

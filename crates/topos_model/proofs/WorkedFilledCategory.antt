@@ -3,9 +3,9 @@ use Rattle.std.proofs.Common.{◌≡◌, ℕ, zero, suc, ◌<◌, ◌≤◌, fal
 use Rattle.std.proofs.lemmas.Bool.{true≢false}
 use Rattle.finite_lists.specs.Members.{In}
 use Rattle.topos_model.specs.declared.raw.RawCat.{RawCat}
-use Rattle.topos_model.specs.Category.{Category, dom, cod}
-use Rattle.topos_model.specs.Listed.{all_ends, composable}
-use Rattle.topos_model.specs.Filling.{candidates, has_composite, filled_composite, filled_category, Filled}
+use Rattle.topos_model.specs.categories.Category.{Category, dom, cod}
+use Rattle.topos_model.specs.categories.Listed.{all_ends, composable}
+use Rattle.topos_model.specs.categories.Filling.{candidates, has_composite, filled_composite, filled_category, Filled}
 
 -- what the examples compute with
 opened : Unit {0}

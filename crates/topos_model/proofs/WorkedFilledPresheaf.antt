@@ -5,11 +5,11 @@ use Rattle.std.proofs.lemmas.Option.{none-some}
 use Rattle.finite_lists.specs.Members.{In}
 use Rattle.topos_model.specs.declared.raw.RawAlong.{RawAlong}
 use Rattle.topos_model.specs.declared.raw.RawFunctor.{RawFunctor}
-use Rattle.topos_model.specs.Category.{Category, cod}
-use Rattle.topos_model.specs.Types.{Presheaf}
+use Rattle.topos_model.specs.categories.Category.{Category, cod}
+use Rattle.topos_model.specs.types.Types.{Presheaf}
 use Rattle.topos_model.specs.Laws.{IsInto, IsFunctor, act, size}
-use Rattle.topos_model.specs.Listed.{all_ends, composable, listed_row}
-use Rattle.topos_model.specs.Filling.{candidates, has_composite, has_restriction, fills, filled_composite, filled_category, filling_pair, composite_row, filled_row, filled_rows, filled_presheaf, IsFilledFunctor}
+use Rattle.topos_model.specs.categories.Listed.{all_ends, composable, listed_row}
+use Rattle.topos_model.specs.categories.Filling.{candidates, has_composite, has_restriction, fills, filled_composite, filled_category, filling_pair, composite_row, filled_row, filled_rows, filled_presheaf, IsFilledFunctor}
 
 -- what the examples compute with
 opened : Unit {0}

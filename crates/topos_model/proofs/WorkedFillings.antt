@@ -2,11 +2,11 @@
 use Rattle.std.specs.Prelude.{◌≡◌, ℕ, List, [], ◌∷◌, refl, Some, None}
 use Rattle.topos_model.specs.declared.raw.RawCat.{RawCat}
 use Rattle.topos_model.specs.declared.fault.Fault.TheVariants.{CompositeMissing, CompositeTwice, CompositeEnds, NotAssociative}
-use Rattle.topos_model.specs.Category.{into}
-use Rattle.topos_model.specs.Listed.{all_ends, composable}
+use Rattle.topos_model.specs.categories.Category.{into}
+use Rattle.topos_model.specs.categories.Listed.{all_ends, composable}
 use Rattle.topos_model.specs.Faults.{associativity_fault}
-use Rattle.topos_model.specs.Filling.{candidates, has_composite, filled_composite, filled_category}
-use Rattle.topos_model.specs.CategoryFaults.{has_ends, listed_composite_fault, listing_fault, is_determined, missing_composite_fault, category_fault}
+use Rattle.topos_model.specs.categories.Filling.{candidates, has_composite, filled_composite, filled_category}
+use Rattle.topos_model.specs.categories.CategoryFaults.{has_ends, listed_composite_fault, listing_fault, is_determined, missing_composite_fault, category_fault}
 
 -- what the examples compute with
 opened : Unit {0}

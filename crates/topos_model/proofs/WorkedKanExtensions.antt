@@ -2,13 +2,13 @@
 use Rattle.std.proofs.Common.{◌≡◌, ℕ, zero, suc, ◌<◌, inl, inr, true, false, List, [], ◌∷◌, length, refl, sym, ap, subst, ◌∙◌, arith}
 use Rattle.std.specs.Prelude.{map, Some, None}
 use Rattle.topos_model.specs.declared.fault.Fault.TheVariants.{NotSent, FunctorEnds, FunctorLaw}
-use Rattle.topos_model.specs.Category.{dom, cod, into}
-use Rattle.topos_model.specs.Types.{Presheaf}
+use Rattle.topos_model.specs.categories.Category.{dom, cod, into}
+use Rattle.topos_model.specs.types.Types.{Presheaf}
 use Rattle.topos_model.specs.Laws.{act, size, IsFunctor}
-use Rattle.topos_model.specs.Maps.{Components, component, apply, IsNatural, after, ExactlyOne}
-use Rattle.topos_model.specs.CategoryFunctors.{CatFunctor, IsCatFunctor, listed_functor, sending_fault, ends_fault, composite_fault, functor_fault, restricted, restricted_map}
-use Rattle.topos_model.specs.KanExtensions.{arrows_between, generated_elements, family_of, IsLan, IsRan}
-use Rattle.topos_model.specs.Colimits.{IsLeastPlace, LeastPlacesRise}
+use Rattle.topos_model.specs.presheaves.Maps.{Components, component, apply, IsNatural, after, ExactlyOne}
+use Rattle.topos_model.specs.categories.CategoryFunctors.{CatFunctor, IsCatFunctor, listed_functor, sending_fault, ends_fault, composite_fault, functor_fault, restricted, restricted_map}
+use Rattle.topos_model.specs.presheaves.KanExtensions.{arrows_between, generated_elements, family_of, IsLan, IsRan}
+use Rattle.topos_model.specs.presheaves.Colimits.{IsLeastPlace, LeastPlacesRise}
 use Rattle.topos_model.proofs.ShortLists.{one_component, two_components, two_entries, no_entries}
 use Rattle.topos_model.proofs.LawTests.{lawful_functor, natural_map, least_places_rise}
 use Rattle.topos_model.proofs.SmallCategories.{point, graph, idempotent, involution}

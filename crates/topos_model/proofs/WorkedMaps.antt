@@ -3,13 +3,13 @@ use Rattle.std.proofs.Common.{◌≡◌, ℕ, ◌<◌, inr, inl, List, [], ◌�
 use Rattle.topos_model.specs.declared.raw.RawEntry.{RawEntry}
 use Rattle.topos_model.specs.declared.raw.RawMap.{RawMap}
 use Rattle.topos_model.specs.declared.fault.Fault.TheVariants.{NoElement, MapNotTotal, NotNatural}
-use Rattle.topos_model.specs.Category.{Category}
-use Rattle.topos_model.specs.Types.{Presheaf}
-use Rattle.topos_model.specs.Listed.{all_ends, composable, listed_row}
-use Rattle.topos_model.specs.Filling.{candidates, has_composite, filled_composite, filled_category, has_restriction, fills, filling_pair, composite_row, filled_row, filled_rows, filled_presheaf}
-use Rattle.topos_model.specs.Maps.{Components, after}
-use Rattle.topos_model.specs.NaturalMaps.{identity_map, choices, rows, all_components, commutes_at, is_natural_map, maps}
-use Rattle.topos_model.specs.MapFaults.{HasEntries, has_image, listed_map, entry_fault, map_total_fault, naturality_fault, map_fault}
+use Rattle.topos_model.specs.categories.Category.{Category}
+use Rattle.topos_model.specs.types.Types.{Presheaf}
+use Rattle.topos_model.specs.categories.Listed.{all_ends, composable, listed_row}
+use Rattle.topos_model.specs.categories.Filling.{candidates, has_composite, filled_composite, filled_category, has_restriction, fills, filling_pair, composite_row, filled_row, filled_rows, filled_presheaf}
+use Rattle.topos_model.specs.presheaves.Maps.{Components, after}
+use Rattle.topos_model.specs.presheaves.NaturalMaps.{identity_map, choices, rows, all_components, commutes_at, is_natural_map, maps}
+use Rattle.topos_model.specs.presheaves.MapFaults.{HasEntries, has_image, listed_map, entry_fault, map_total_fault, naturality_fault, map_fault}
 
 -- what the examples compute with
 opened : Unit {0}

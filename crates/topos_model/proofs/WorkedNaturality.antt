@@ -1,9 +1,9 @@
 -- Worked examples of natural maps, by cases: a map of graphs, and two that are none.
 use Rattle.std.proofs.Common.{◌≡◌, ℕ, zero, suc, ◌<◌, [], ◌∷◌, length, get_or, refl, sym, ◌∙◌, ap, subst, arith}
-use Rattle.topos_model.specs.Category.{Category, dom, cod}
-use Rattle.topos_model.specs.Types.{Presheaf}
+use Rattle.topos_model.specs.categories.Category.{Category, dom, cod}
+use Rattle.topos_model.specs.types.Types.{Presheaf}
 use Rattle.topos_model.specs.Laws.{IsInto, act, size}
-use Rattle.topos_model.specs.Maps.{Components, apply, IsNatural}
+use Rattle.topos_model.specs.presheaves.Maps.{Components, apply, IsNatural}
 
 -- graphs: vertices, edges, and arrows s, t from the first to the second
 abbrev graph : Category

@@ -4,17 +4,17 @@ use Rattle.std.specs.Prelude.{None}
 use Rattle.finite_lists.specs.Members.{In}
 use Rattle.finite_lists.specs.Rising.{Rising, SublistBelow}
 use Rattle.finite_lists.specs.Sublists.{sublists}
-use Rattle.topos_model.specs.Category.{into, dom, compose, is_sieve, sieves, generated, pull}
-use Rattle.topos_model.specs.Cover.{Site, is_cover, is_dense, is_listed, covers}
-use Rattle.topos_model.specs.Types.{Presheaf}
+use Rattle.topos_model.specs.categories.Category.{into, dom, compose, is_sieve, sieves, generated, pull}
+use Rattle.topos_model.specs.topologies.Cover.{Site, is_cover, is_dense, is_listed, covers}
+use Rattle.topos_model.specs.types.Types.{Presheaf}
 use Rattle.topos_model.specs.Laws.{IsInto, act, size}
-use Rattle.topos_model.specs.Listed.{all_ends, composable, listed_composite, listed_category}
-use Rattle.topos_model.specs.Maps.{after}
-use Rattle.topos_model.specs.NaturalMaps.{choices}
-use Rattle.topos_model.specs.LeastCovers.{is_among_covers, least, closure}
-use Rattle.topos_model.specs.TopologyFaults.{intersection, listed_sieves, least_twice, stability_fault, intersection_fault, least_twice_fault, topology_fault, first_topology_fault}
-use Rattle.topos_model.specs.Sheaves.{IsMatching, element_at, agrees, matching_families, amalgamations, sheaf_fault}
-use Rattle.topos_model.specs.PlusConstruction.{IsPlus, IsAssociated, families, restricted, restrictions, plus, unit, pairs, trace, traces}
+use Rattle.topos_model.specs.categories.Listed.{all_ends, composable, listed_composite, listed_category}
+use Rattle.topos_model.specs.presheaves.Maps.{after}
+use Rattle.topos_model.specs.presheaves.NaturalMaps.{choices}
+use Rattle.topos_model.specs.topologies.LeastCovers.{is_among_covers, least, closure}
+use Rattle.topos_model.specs.topologies.TopologyFaults.{intersection, listed_sieves, least_twice, stability_fault, intersection_fault, least_twice_fault, topology_fault, first_topology_fault}
+use Rattle.topos_model.specs.topologies.Sheaves.{IsMatching, element_at, agrees, matching_families, amalgamations, sheaf_fault}
+use Rattle.topos_model.specs.topologies.PlusConstruction.{IsPlus, IsAssociated, families, restricted, restrictions, plus, unit, pairs, trace, traces}
 
 -- what the examples compute with
 opened : Unit {0}

@@ -1,15 +1,15 @@
 -- A worked example: the plus of a presheaf on an idempotent, in the words of the law.
 use Rattle.std.proofs.Common.{◌≡◌, ℕ, zero, suc, ◌<◌, [], length, get_or, refl, sym, subst, arith}
 use Rattle.finite_lists.specs.Sublists.{sublists}
-use Rattle.topos_model.specs.Category.{into, dom, is_sieve, sieves, generated, pull}
-use Rattle.topos_model.specs.Cover.{is_cover, is_dense, is_listed, covers}
+use Rattle.topos_model.specs.categories.Category.{into, dom, is_sieve, sieves, generated, pull}
+use Rattle.topos_model.specs.topologies.Cover.{is_cover, is_dense, is_listed, covers}
 use Rattle.topos_model.specs.Laws.{act, size}
-use Rattle.topos_model.specs.Listed.{all_ends, composable, listed_composite, listed_category}
-use Rattle.topos_model.specs.Maps.{IsNatural, apply}
-use Rattle.topos_model.specs.NaturalMaps.{choices}
-use Rattle.topos_model.specs.LeastCovers.{least}
-use Rattle.topos_model.specs.Sheaves.{agrees, matching_families}
-use Rattle.topos_model.specs.PlusConstruction.{IsPlus, families, restricted, restrictions, plus, unit}
+use Rattle.topos_model.specs.categories.Listed.{all_ends, composable, listed_composite, listed_category}
+use Rattle.topos_model.specs.presheaves.Maps.{IsNatural, apply}
+use Rattle.topos_model.specs.presheaves.NaturalMaps.{choices}
+use Rattle.topos_model.specs.topologies.LeastCovers.{least}
+use Rattle.topos_model.specs.topologies.Sheaves.{agrees, matching_families}
+use Rattle.topos_model.specs.topologies.PlusConstruction.{IsPlus, families, restricted, restrictions, plus, unit}
 use Rattle.topos_model.proofs.WorkedPlus.{idempotent, X}
 use Rattle.topos_model.proofs.WorkedSheafOnIdempotent.{k, A, target, object, two_at, A_functor}
 

@@ -2,15 +2,15 @@
 use Rattle.std.proofs.Common.{◌≡◌, false, [], ◌∷◌, refl}
 use Rattle.std.specs.Prelude.{Some, None}
 use Rattle.finite_lists.specs.Sublists.{sublists}
-use Rattle.topos_model.specs.Category.{into, is_sieve, sieves, generated, pull}
-use Rattle.topos_model.specs.Cover.{Site, is_cover, is_dense, is_listed, covers}
-use Rattle.topos_model.specs.Types.{Presheaf}
-use Rattle.topos_model.specs.Listed.{all_ends, composable, listed_composite, listed_category}
-use Rattle.topos_model.specs.NaturalMaps.{choices}
-use Rattle.topos_model.specs.LeastCovers.{is_among_covers, least, closure}
-use Rattle.topos_model.specs.TopologyFaults.{intersection, listed_sieves, least_twice, stability_fault, intersection_fault, least_twice_fault, topology_fault, first_topology_fault}
-use Rattle.topos_model.specs.Sheaves.{agrees, matching_families, amalgamations, sheaf_fault}
-use Rattle.topos_model.specs.PlusConstruction.{families, restricted, restrictions, plus, unit}
+use Rattle.topos_model.specs.categories.Category.{into, is_sieve, sieves, generated, pull}
+use Rattle.topos_model.specs.topologies.Cover.{Site, is_cover, is_dense, is_listed, covers}
+use Rattle.topos_model.specs.types.Types.{Presheaf}
+use Rattle.topos_model.specs.categories.Listed.{all_ends, composable, listed_composite, listed_category}
+use Rattle.topos_model.specs.presheaves.NaturalMaps.{choices}
+use Rattle.topos_model.specs.topologies.LeastCovers.{is_among_covers, least, closure}
+use Rattle.topos_model.specs.topologies.TopologyFaults.{intersection, listed_sieves, least_twice, stability_fault, intersection_fault, least_twice_fault, topology_fault, first_topology_fault}
+use Rattle.topos_model.specs.topologies.Sheaves.{agrees, matching_families, amalgamations, sheaf_fault}
+use Rattle.topos_model.specs.topologies.PlusConstruction.{families, restricted, restrictions, plus, unit}
 use Rattle.topos_model.proofs.WorkedTopologies.{dense}
 
 -- what the examples compute with

@@ -3,11 +3,11 @@ use Rattle.std.specs.Prelude.{◌≡◌, ℕ, List, [], ◌∷◌, refl, Some, N
 use Rattle.topos_model.specs.declared.raw.RawAlong.{RawAlong}
 use Rattle.topos_model.specs.declared.raw.RawFunctor.{RawFunctor}
 use Rattle.topos_model.specs.declared.fault.Fault.TheVariants.{RestrictionMissing, NotTotal, NotFunctorial}
-use Rattle.topos_model.specs.Category.{Category, into}
-use Rattle.topos_model.specs.Listed.{all_ends, composable, listed_row}
+use Rattle.topos_model.specs.categories.Category.{Category, into}
+use Rattle.topos_model.specs.categories.Listed.{all_ends, composable, listed_row}
 use Rattle.topos_model.specs.Faults.{functoriality_fault}
-use Rattle.topos_model.specs.Filling.{candidates, has_composite, filled_composite, filled_category, has_restriction, fills, filling_pair, composite_row, filled_row, filled_rows, filled_presheaf}
-use Rattle.topos_model.specs.PresheafFaults.{declared, has_entry, total_fault, missing_restriction_fault, restriction_fault, presheaf_fault}
+use Rattle.topos_model.specs.categories.Filling.{candidates, has_composite, filled_composite, filled_category, has_restriction, fills, filling_pair, composite_row, filled_row, filled_rows, filled_presheaf}
+use Rattle.topos_model.specs.presheaves.PresheafFaults.{declared, has_entry, total_fault, missing_restriction_fault, restriction_fault, presheaf_fault}
 
 -- what the examples compute with
 opened : Unit {0}

@@ -5,12 +5,12 @@ use Rattle.std.specs.List.{range_with_len}
 use Rattle.std.proofs.lemmas.List.{ext_get_or}
 use Rattle.std.proofs.lemmas.List.FromFn.{length-map-range_with_len, get_or-map-range_with_len}
 use Rattle.finite_lists.specs.Rising.{NumbersBelow}
-use Rattle.topos_model.specs.Category.{dom, cod, into}
-use Rattle.topos_model.specs.Types.{Presheaf}
+use Rattle.topos_model.specs.categories.Category.{dom, cod, into}
+use Rattle.topos_model.specs.types.Types.{Presheaf}
 use Rattle.topos_model.specs.Laws.{act, size, IsFunctor}
-use Rattle.topos_model.specs.Maps.{Components, component, apply, IsNatural, after_component, after, ExactlyOne}
-use Rattle.topos_model.specs.CategoryFunctors.{restricted, restricted_map}
-use Rattle.topos_model.specs.KanExtensions.{arrows_between, family_of, IsRan}
+use Rattle.topos_model.specs.presheaves.Maps.{Components, component, apply, IsNatural, after_component, after, ExactlyOne}
+use Rattle.topos_model.specs.categories.CategoryFunctors.{restricted, restricted_map}
+use Rattle.topos_model.specs.presheaves.KanExtensions.{arrows_between, family_of, IsRan}
 use Rattle.topos_model.proofs.ShortLists.{one_component, two_components}
 use Rattle.topos_model.proofs.LawTests.{lawful_functor, natural_map}
 use Rattle.topos_model.proofs.WorkedKanExtensions.{to_vertex, P, same_elements, R}

@@ -2,14 +2,14 @@
 use Rattle.std.proofs.Common.{◌≡◌, ℕ, zero, suc, ◌<◌, inl, inr, List, [], ◌∷◌, length, get_or, refl, sym, ◌∙◌, ap, subst, arith}
 use Rattle.finite_lists.specs.Members.{In}
 use Rattle.finite_lists.specs.Sublists.{sublists}
-use Rattle.topos_model.specs.Category.{Category, into, dom, compose, is_sieve, sieves, generated, pull}
-use Rattle.topos_model.specs.Cover.{is_cover, is_dense, is_listed, covers}
-use Rattle.topos_model.specs.Types.{Presheaf}
+use Rattle.topos_model.specs.categories.Category.{Category, into, dom, compose, is_sieve, sieves, generated, pull}
+use Rattle.topos_model.specs.topologies.Cover.{is_cover, is_dense, is_listed, covers}
+use Rattle.topos_model.specs.types.Types.{Presheaf}
 use Rattle.topos_model.specs.Laws.{IsFunctor, IsInto, act, size}
-use Rattle.topos_model.specs.Listed.{all_ends, composable, listed_composite, listed_category}
-use Rattle.topos_model.specs.Maps.{Components, IsNatural, after, apply}
-use Rattle.topos_model.specs.Sheaves.{IsSheaf, element_at}
-use Rattle.topos_model.specs.PlusConstruction.{pairs, trace, traces}
+use Rattle.topos_model.specs.categories.Listed.{all_ends, composable, listed_composite, listed_category}
+use Rattle.topos_model.specs.presheaves.Maps.{Components, IsNatural, after, apply}
+use Rattle.topos_model.specs.topologies.Sheaves.{IsSheaf, element_at}
+use Rattle.topos_model.specs.topologies.PlusConstruction.{pairs, trace, traces}
 use Rattle.topos_model.proofs.WorkedPlus.{idempotent, X}
 
 -- what the example computes with

@@ -2,15 +2,15 @@
 use Rattle.std.proofs.Common.{◌≡◌, ℕ, zero, suc, ◌<◌, false, inl, [], ◌∷◌, refl, sym, ◌∙◌, arith}
 use Rattle.std.specs.Prelude.{Some, None}
 use Rattle.finite_lists.specs.Sublists.{sublists}
-use Rattle.topos_model.specs.Category.{Category, into, dom, is_sieve, sieves, generated, pull}
-use Rattle.topos_model.specs.Cover.{Site, is_cover, is_dense, is_listed, covers}
-use Rattle.topos_model.specs.Types.{Presheaf}
+use Rattle.topos_model.specs.categories.Category.{Category, into, dom, is_sieve, sieves, generated, pull}
+use Rattle.topos_model.specs.topologies.Cover.{Site, is_cover, is_dense, is_listed, covers}
+use Rattle.topos_model.specs.types.Types.{Presheaf}
 use Rattle.topos_model.specs.Laws.{act, size}
-use Rattle.topos_model.specs.Listed.{all_ends, composable, listed_composite, listed_category}
-use Rattle.topos_model.specs.Maps.{ExactlyOne}
-use Rattle.topos_model.specs.NaturalMaps.{choices}
-use Rattle.topos_model.specs.LeastCovers.{is_among_covers, least, closure}
-use Rattle.topos_model.specs.Sheaves.{IsAmalgamation, IsSeparated, IsSheaf, element_at, agrees, matching_families, amalgamations, sheaf_fault}
+use Rattle.topos_model.specs.categories.Listed.{all_ends, composable, listed_composite, listed_category}
+use Rattle.topos_model.specs.presheaves.Maps.{ExactlyOne}
+use Rattle.topos_model.specs.presheaves.NaturalMaps.{choices}
+use Rattle.topos_model.specs.topologies.LeastCovers.{is_among_covers, least, closure}
+use Rattle.topos_model.specs.topologies.Sheaves.{IsAmalgamation, IsSeparated, IsSheaf, element_at, agrees, matching_families, amalgamations, sheaf_fault}
 use Rattle.topos_model.proofs.WorkedTopologies.{graph, dense, trivial, nothing}
 
 -- what the examples compute with
@@ -107,21 +107,21 @@ unfolding opened loops
 two_loops_no_sheaf = refl
 
 -- U covered by A (arrow 5) and B (6), which meet in W1 and W2; from the one to the other the gluing swaps
-abbrev two_pieces : Category
+abbrev pub two_pieces : Category
 two_pieces = listed_category (record {
   objects = 5;
   ends = (1, 0) ∷ (2, 0) ∷ (3, 1) ∷ (4, 1) ∷ (3, 2) ∷ (4, 2) ∷ (3, 0) ∷ (4, 0) ∷ [];
   listed = (5, 7, 11) ∷ (5, 8, 12) ∷ (6, 9, 11) ∷ (6, 10, 12) ∷ [];
 })
 
-abbrev by_two_pieces : Site
+abbrev pub by_two_pieces : Site
 by_two_pieces = record { category = two_pieces; dense = false; families = record { at = 0; arrows = 5 ∷ 6 ∷ [] } ∷ [] }
 
 least_two_pieces : least by_two_pieces 0 ≡ 5 ∷ 6 ∷ 11 ∷ 12 ∷ []
 unfolding opened
 least_two_pieces = refl
 
-swapped : Presheaf
+abbrev pub swapped : Presheaf
 swapped = record {
   sizes = 0 ∷ 2 ∷ 2 ∷ 2 ∷ 2 ∷ [];
   along = [] ∷ (0 ∷ 1 ∷ []) ∷ (0 ∷ 1 ∷ []) ∷ (0 ∷ 1 ∷ []) ∷ (0 ∷ 1 ∷ []) ∷ [] ∷ [] ∷ (0 ∷ 1 ∷ []) ∷ (0 ∷ 1 ∷ []) ∷ (0 ∷ 1 ∷ []) ∷ (1 ∷ 0 ∷ []) ∷ [] ∷ [] ∷ [];
@@ -129,5 +129,5 @@ swapped = record {
 
 -- no family matches over U, and there is no element
 swapped_sheaf : sheaf_fault by_two_pieces swapped ≡ None
-unfolding opened swapped
+unfolding opened
 swapped_sheaf = refl

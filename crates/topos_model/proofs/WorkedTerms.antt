@@ -5,16 +5,17 @@ use Rattle.topos_model.specs.declared.term.Term.{Term, Var, Star, Pair, Fst, Mem
 use Rattle.topos_model.specs.declared.value.Val.{out-Val}
 use Rattle.topos_model.specs.declared.stmt.Stmt.TheVariants.{Show, Valid, Why, Let}
 use Rattle.topos_model.specs.declared.fault.Fault.TheVariants.{Expected, NotAFunction, NotAPower, NotAPair, NotASheaf, WrongTopology}
-use Rattle.topos_model.specs.Category.{Category, into, is_sieve, sieves, generated, pull}
+use Rattle.topos_model.specs.categories.Category.{Category, into, is_sieve, sieves, generated, pull}
 use Rattle.finite_lists.specs.Sublists.{sublists}
-use Rattle.topos_model.specs.Cover.{Site, is_cover, is_dense, is_listed, covers}
-use Rattle.topos_model.specs.Types.{Presheaf, elements, places, closed_below, closed_under_covers, is_closed_sieve, at_place, in_entries, base_elements, base_along, omega_elements, omega_along, two_elements, two_along, pow_elements, pow_along}
-use Rattle.topos_model.specs.Values.{same, number_of, first_of, second_of, arrows_of, entries_of}
-use Rattle.topos_model.specs.Typing.{same_type, typed}
-use Rattle.topos_model.specs.Needs.{parts, inner, step_terms, terms_of, term_needs, types_of, needs, first_no_sheaf, under}
-use Rattle.topos_model.specs.Cells.{presheaf_cells, hom_cells, without_repeats, width, cells_of, types_cells, types_under, cells, is_named}
-use Rattle.topos_model.specs.Nodes.{nodes}
-use Rattle.topos_model.specs.StatementFaults.{applied, depends_on_covers, foreign_map_fault, formula_fault, term_fault, step_fault, typing_fault}
+use Rattle.topos_model.specs.topologies.Cover.{Site, is_cover, is_dense, is_listed, covers}
+use Rattle.topos_model.specs.types.Types.{Presheaf, elements, places, closed_below, closed_under_covers, is_closed_sieve, at_place, in_entries, base_elements, base_along, omega_elements, omega_along, two_elements, two_along, pow_elements, pow_along}
+use Rattle.topos_model.specs.types.Values.{same, number_of, first_of, second_of, arrows_of, entries_of}
+use Rattle.topos_model.specs.types.SameType.{same_type}
+use Rattle.topos_model.specs.formulas.Typing.{typed}
+use Rattle.topos_model.specs.statements.Needs.{parts, inner, step_terms, terms_of, term_needs, types_of, needs, first_no_sheaf, under}
+use Rattle.topos_model.specs.statements.Cells.{presheaf_cells, hom_cells, without_repeats, width, cells_of, types_cells, types_under, cells, is_named}
+use Rattle.topos_model.specs.types.Nodes.{nodes}
+use Rattle.topos_model.specs.statements.StatementFaults.{applied, depends_on_covers, foreign_map_fault, formula_fault, term_fault, step_fault, typing_fault}
 use denote.Hole.Carrier
 use Rattle.topos_model.specs.declared.term.Term.TheBlock.{hidden-the_row-Term-0}
 use Rattle.topos_model.specs.declared.ty.Ty.TheBlock.{hidden-the_row-Ty-0, shown-the_row-Ty-0}

@@ -4,11 +4,11 @@ use Rattle.std.specs.Prelude.{Some, None}
 use Rattle.finite_lists.specs.Members.{In}
 use Rattle.finite_lists.specs.Sublists.{sublists}
 use Rattle.topos_model.specs.declared.fault.Fault.TheVariants.{NotStable, NotTransitive}
-use Rattle.topos_model.specs.Category.{Category, into, dom, is_sieve, sieves, generated, pull}
-use Rattle.topos_model.specs.Cover.{Site, is_cover, is_dense, is_listed, covers}
-use Rattle.topos_model.specs.Listed.{all_ends, composable, listed_composite, listed_category}
-use Rattle.topos_model.specs.LeastCovers.{IsLeast, is_among_covers, least, closure}
-use Rattle.topos_model.specs.TopologyFaults.{Fails, intersection, listed_sieves, least_twice, stability_fault, intersection_fault, least_twice_fault, topology_fault, first_topology_fault}
+use Rattle.topos_model.specs.categories.Category.{Category, into, dom, is_sieve, sieves, generated, pull}
+use Rattle.topos_model.specs.topologies.Cover.{Site, is_cover, is_dense, is_listed, covers}
+use Rattle.topos_model.specs.categories.Listed.{all_ends, composable, listed_composite, listed_category}
+use Rattle.topos_model.specs.topologies.LeastCovers.{IsLeast, is_among_covers, least, closure}
+use Rattle.topos_model.specs.topologies.TopologyFaults.{Fails, intersection, listed_sieves, least_twice, stability_fault, intersection_fault, least_twice_fault, topology_fault, first_topology_fault}
 
 -- what the examples compute with
 opened : Unit {0}

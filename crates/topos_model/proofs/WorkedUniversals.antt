@@ -2,11 +2,11 @@
 -- Sets show each property; of graphs the coequalizer stands in WorkedCoequalizers, Kan extensions in files of their own. The others of graphs are left out: a map from or to a graph that is not known
 -- is a list of unknown length at the vertices and at the edges, and each such proof is a special case of the lemmas on its construction, no shorter than they are.
 use Rattle.std.proofs.Common.{◌≡◌, ℕ, zero, suc, ◌<◌, inl, inr, [], ◌∷◌, get_or, refl, sym, ap, ◌+◌, ◌++◌, ◌∙◌, arith}
-use Rattle.topos_model.specs.Types.{Presheaf}
+use Rattle.topos_model.specs.types.Types.{Presheaf}
 use Rattle.topos_model.specs.Laws.{size}
-use Rattle.topos_model.specs.Maps.{Components, component, apply, IsNatural, after}
-use Rattle.topos_model.specs.Limits.{IsProduct, IsEqualizer, IsPullback, IsImage}
-use Rattle.topos_model.specs.Colimits.{LeastPlacesRise, IsInitial, IsCoproduct, IsPushout}
+use Rattle.topos_model.specs.presheaves.Maps.{Components, component, apply, IsNatural, after}
+use Rattle.topos_model.specs.presheaves.Limits.{IsProduct, IsEqualizer, IsPullback, IsImage}
+use Rattle.topos_model.specs.presheaves.Colimits.{LeastPlacesRise, IsInitial, IsCoproduct, IsPushout}
 use Rattle.topos_model.proofs.ShortLists.{one_component}
 use Rattle.topos_model.proofs.LawTests.{least_place, least_places_rise}
 use Rattle.topos_model.proofs.SmallSets.{after_element, after_one, both_entries, both_once, differ, element_after, empty_map, empty_map_only, first_of_two, from_one_injective, into_one_same, map_of, no_map_to_none, no_member}

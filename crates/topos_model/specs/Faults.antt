@@ -3,8 +3,8 @@ use Rattle.std.specs.Prelude.{not, eqb, Option}
 use Rattle.std.specs.List.{range_with_len}
 use Rattle.topos_model.specs.declared.fault.Fault.{Fault}
 use Rattle.topos_model.specs.declared.fault.Fault.TheVariants.{NotAssociative, NotFunctorial}
-use Rattle.topos_model.specs.Category.{Category, into, dom, cod, compose, arrows}
-use Rattle.topos_model.specs.Types.{Presheaf}
+use Rattle.topos_model.specs.categories.Category.{Category, into, dom, cod, compose, arrows}
+use Rattle.topos_model.specs.types.Types.{Presheaf}
 use Rattle.topos_model.specs.Laws.{act, size}
 use Rattle.finite_lists.specs.First.{first, some_if}
 

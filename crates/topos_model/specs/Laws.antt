@@ -2,9 +2,9 @@
 use Rattle.std.specs.Prelude.{◌≡◌, ℕ, ◌<◌, ◌⊎◌, List, [], length, get_or, Contains}
 use Rattle.finite_lists.specs.Members.{In}
 use Rattle.finite_lists.specs.Rising.{Rising}
-use Rattle.topos_model.specs.Category.{Category, into, dom, cod, compose, sieves, pull}
-use Rattle.topos_model.specs.Cover.{Site, covers}
-use Rattle.topos_model.specs.Types.{Presheaf}
+use Rattle.topos_model.specs.categories.Category.{Category, into, dom, cod, compose, sieves, pull}
+use Rattle.topos_model.specs.topologies.Cover.{Site, covers}
+use Rattle.topos_model.specs.types.Types.{Presheaf}
 
 -- f is an arrow into c
 abbrev pub IsInto : Category → ℕ → ℕ → Type 0

@@ -1,31 +1,33 @@
--- How the run of a document ends.
-use Rattle.std.proofs.Common.{◌≡◌, ℕ, ◌+◌, List, [], ◌∷◌, ap, inl, inr, None, Some}
+-- How the run of a document ends, where cells are not counted.
+use Rattle.std.proofs.Common.{◌≡◌, ℕ, ◌<◌, List, ◌∷◌, inl, inr, refl, arith}
 use Rattle.topos_model.specs.declared.stmt.Stmt.{Stmt}
 use Rattle.topos_model.specs.declared.doc.Doc.{Doc}
 use Rattle.topos_model.specs.declared.answer.Answer.{Answer}
 use Rattle.topos_model.specs.declared.answer.End.{End}
-use Rattle.topos_model.specs.declared.answer.End.TheVariants.{Refused}
-use Rattle.topos_model.specs.Forcing.{World}
-use Rattle.topos_model.specs.Run.{Answers, Runs, RunOf, refusal, site_refusal, first_world}
+use Rattle.topos_model.specs.statements.Declarations.{Declared}
+use Rattle.topos_model.specs.statements.Run.{counted, IsOver, with_its_types, with_its_answer, Runs, ended, refused, over, answered, RunsWith, site_refused, site_accepted}
+use Rattle.topos_model.specs.statements.Built.{today}
+use Rattle.topos_model.specs.statements.StagedRun.{StagedRunOf, out_of_range, in_range}
 use Rattle.topos_program.specs.Status.{status_of, IsDoneOrRefused}
 
-runs_end : (w : World) (n : ℕ) (stmts : List Stmt) (answers : List Answer) (end : End) → Runs w n stmts answers end → IsDoneOrRefused (status_of end)
-runs_end w n [] answers end = λ h. inl (ap status_of h.1)
-runs_end w n (stmt ∷ rest) answers end =
-    elim (refusal w stmt) as (λ refused. elim refused [
-      | Some fault ↦ (answers ≡ []) × (end ≡ Refused (Some n) fault)
-      | None ↦ (answer : Answer) × (later : List Answer) × (next : World) × (answers ≡ answer ∷ later) × Answers w stmt answer next × Runs next (n + 1) rest later end
-    ] → IsDoneOrRefused (status_of end)) [
-      | Some fault ↦ λ h. inr (ap status_of h.1)
-      | None ↦ λ h. runs_end h.2 (n + 1) rest h.1 end h.5
-    ]
+none_below : (n : ℕ) → n < 0 → ⊥
+none_below n low = omega arith
 
-pub run_end : (doc : Doc) (answers : List Answer) (end : End) → RunOf doc answers end → IsDoneOrRefused (status_of end)
-run_end doc answers end =
-    elim (site_refusal doc) as (λ refused. elim refused [
-      | Some fault ↦ (answers ≡ []) × (end ≡ Refused None fault)
-      | None ↦ Runs (first_world doc) (doc.site_len + 1) doc.stmts answers end
-    ] → IsDoneOrRefused (status_of end)) [
-      | Some fault ↦ λ h. inr (ap status_of h.1)
-      | None ↦ λ h. runs_end (first_world doc) (doc.site_len + 1) doc.stmts answers end h
-    ]
+never_over : (doc : Doc) (budget : ℕ) (d : Declared) (stmt : Stmt) → IsOver today doc budget d stmt → ⊥
+unfolding counted
+never_over doc budget d stmt (with_its_types is_run accepted more) = none_below budget more
+never_over doc budget d stmt (with_its_answer answer next types goes_on answers more) = none_below budget more
+
+runs_end : (doc : Doc) (budget : ℕ) (d : Declared) (n : ℕ) (stmts : List Stmt) (answers : List Answer) (end : End) → Runs today doc budget d n stmts answers end → IsDoneOrRefused (status_of end)
+runs_end doc budget d n _ _ _ ended = inl refl
+runs_end doc budget d n _ _ _ (refused why) = inr refl
+runs_end doc budget d n _ _ _ (over {stmt = stmt} more) = absurd (never_over doc budget d stmt more)
+runs_end doc budget d n _ _ end (answered {next = next} {rest = rest} {answers = answers} step runs) = runs_end doc budget next _ rest answers end runs
+
+with_end : (doc : Doc) (budget : ℕ) (answers : List Answer) (end : End) → RunsWith today doc budget answers end → IsDoneOrRefused (status_of end)
+with_end doc budget _ _ (site_refused why) = inr refl
+with_end doc budget answers end (site_accepted lawful runs) = runs_end doc budget _ _ _ answers end runs
+
+pub run_end : (doc : Doc) (budget : ℕ) (answers : List Answer) (end : End) → StagedRunOf doc budget answers end → IsDoneOrRefused (status_of end)
+run_end doc budget _ _ (out_of_range range) = inr refl
+run_end doc budget answers end (in_range range runs) = with_end doc budget answers end runs

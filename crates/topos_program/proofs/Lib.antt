@@ -1,3 +1,5 @@
 pub mod Naming
 pub mod Reading
 pub mod Ending
+mod WorkedWords
+mod WorkedTexts

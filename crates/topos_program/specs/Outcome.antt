@@ -7,7 +7,7 @@ use Rattle.topos_model.specs.declared.answer.Answer.{Answer}
 use Rattle.topos_model.specs.declared.answer.End.{End}
 use Rattle.topos_model.specs.declared.answer.End.TheVariants.{Refused}
 use Rattle.topos_model.specs.declared.fault.Fault.TheVariants.{NotBuilt}
-use Rattle.topos_model.specs.Run.{RunOf}
+use Rattle.topos_model.specs.statements.StagedRun.{StagedRunOf}
 use Rattle.topos_report.specs.EmptyDocument.{empty_document}
 use Rattle.topos_report.specs.Report.{report}
 use Rattle.topos_program.specs.declared.status.Status.{Status}
@@ -18,12 +18,12 @@ use Rattle.topos_program.specs.Status.{status_of}
 abbrev pub limit : ℕ
 limit = 1048576
 
--- the report of the answers of a document, which stand in the run relation to it
+-- the report of the answers of a document, which stand in the run relation to it, whatever the budget: cells are not counted
 pub record IsDocumentReport (written : List ℕ) (ended : Status) : Type 0 where
   pub doc : Doc
   pub answers : List Answer
   pub end : End
-  pub runs : RunOf doc answers end
+  pub runs : (budget : ℕ) → StagedRunOf doc budget answers end
   pub written_is : written ≡ report doc answers end
   pub status_is : ended ≡ status_of end
 

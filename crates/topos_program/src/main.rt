@@ -6,6 +6,7 @@ mod run;
 mod status;
 #[cfg(test)]
 mod tests;
+mod words;
 
 use run::run;
 use status::Status;

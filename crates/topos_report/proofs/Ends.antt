@@ -4,7 +4,7 @@ use Rattle.std.specs.List.{range_with_len}
 use Rattle.std.proofs.lemmas.List.{get_or_append_left, get_or-append_right}
 use Rattle.std.proofs.lemmas.List.FromFn.{length-map-range_with_len, get_or-map-range_with_len}
 use Rattle.topos_model.specs.declared.doc.Doc.{Doc}
-use Rattle.topos_model.specs.Listed.{all_ends}
+use Rattle.topos_model.specs.categories.Listed.{all_ends}
 use Rattle.topos_report.specs.Values.{ends_of}
 
 abbrev identity : ℕ → ℕ × ℕ

@@ -5,3 +5,4 @@ pub mod Spellings
 pub mod TypedValues
 pub mod ObjectLines
 mod WorkedExamples
+mod WorkedReports

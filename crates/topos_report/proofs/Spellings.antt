@@ -6,7 +6,7 @@ use Rattle.topos_model.specs.declared.ty.Ty.{Ty, Base, One, Omega, Two, Pow, Fun
 use Rattle.topos_model.specs.declared.ty.Ty.TheBlock.{hidden-the_row-Ty-0}
 use Rattle.topos_model.specs.declared.value.Val.{Val}
 use Rattle.topos_model.specs.declared.doc.Doc.{Doc}
-use Rattle.topos_model.specs.Values.{number_of, arrows_of, entries_of, assigns_of}
+use Rattle.topos_model.specs.types.Values.{number_of, arrows_of, entries_of, assigns_of}
 use Rattle.topos_report.specs.Names.{element_name}
 use Rattle.topos_report.specs.Values.{value_text, sieve_text, pair_text, subset_text, function_text}
 

@@ -6,7 +6,7 @@ use Rattle.topos_model.specs.declared.value.Val.TheViews.{roll-Val}
 use Rattle.topos_model.specs.declared.value.Val.TheVariants.{rolls-El, rolls-Two, rolls-Sv, rolls-Sub, rolls-Fn}
 use Rattle.topos_model.specs.declared.value.Entry.{Entry}
 use Rattle.topos_model.specs.declared.value.Assign.{Assign}
-use Rattle.topos_model.specs.Values.{Layer, number_in, first_in, second_in, arrows_in, entries_in, assigns_in, number_of, first_of, second_of, arrows_of, entries_of, assigns_of}
+use Rattle.topos_model.specs.types.Values.{Layer, number_in, first_in, second_in, arrows_in, entries_in, assigns_in, number_of, first_of, second_of, arrows_of, entries_of, assigns_of}
 
 -- each default, by the layer
 number_in-other : (v : Val) → ((n : ℕ) → v ≡ El n → ⊥) → (d : Layer) → roll-Val d ≡ v → number_in d ≡ 0

@@ -10,21 +10,21 @@ use Rattle.topos_model.specs.declared.answer.Answer.{Answer}
 use Rattle.topos_model.specs.declared.answer.Answer.TheVariants.{Quiet, Shown}
 use Rattle.topos_model.specs.declared.answer.End.TheVariants.{Whole, Refused}
 use Rattle.topos_model.specs.declared.answer.Tuple.{Tuple}
-use Rattle.topos_model.specs.declared.fault.Fault.TheVariants.{NotBuilt, NotAssociative, NotFunctorial}
+use Rattle.topos_model.specs.declared.fault.Fault.TheVariants.{NotBuilt, CompositeEnds, NotAssociative, NotTotal, NotFunctorial}
 use Rattle.topos_model.specs.declared.stmt.Stmt.TheVariants.{Presheaf}
 use Rattle.topos_model.specs.declared.doc.Doc.{Doc}
-use Rattle.topos_model.specs.Listed.{all_ends}
-use Rattle.topos_model.specs.Values.{number_of, first_of, second_of, arrows_of, entries_of, assigns_of}
+use Rattle.topos_model.specs.categories.Listed.{all_ends}
+use Rattle.topos_model.specs.types.Values.{number_of, first_of, second_of, arrows_of, entries_of, assigns_of}
 use Rattle.topos_report.specs.Names.{name_or_number, arrow_name, element_name}
 use Rattle.topos_report.specs.Values.{ends_of, pair_text, sieve_text, entry_text, subset_text, assign_text, function_text, value_text, typed_text, tuple_text}
 use Rattle.topos_report.specs.Stages.{tuples_line, tuples_line_at, tuples_list}
-use Rattle.topos_report.specs.Refusals.{functor_of, number_prefix, declared_functor, element_of, action_text, refusal_line}
+use Rattle.topos_report.specs.Refusals.{functor_of, number_prefix, declared_functor, element_of, element_along_text, refusal_line}
 use Rattle.topos_report.specs.Report.{answer_lines, lines_from, end_line, report}
 use Rattle.topos_report.specs.EmptyDocument.{empty_document}
 
 -- what the examples compute with
 opened : Unit {0}
-unfolding digits number_of first_of second_of arrows_of entries_of assigns_of out-Val hidden-the_row-Ty-0 hidden-the_row-Val-0 hidden-the_row-Entry-1 hidden-the_row-Assign-2 shown-the_row-Val-0 shown-the_row-Entry-1 shown-the_row-Assign-2 Carrier.hidden Carrier.shown Carrier.out all_ends name_or_number arrow_name element_name ends_of pair_text sieve_text entry_text subset_text assign_text function_text value_text typed_text tuple_text tuples_line tuples_line_at tuples_list functor_of number_prefix declared_functor element_of action_text refusal_line answer_lines lines_from end_line report empty_document
+unfolding digits number_of first_of second_of arrows_of entries_of assigns_of out-Val hidden-the_row-Ty-0 hidden-the_row-Val-0 hidden-the_row-Entry-1 hidden-the_row-Assign-2 shown-the_row-Val-0 shown-the_row-Entry-1 shown-the_row-Assign-2 Carrier.hidden Carrier.shown Carrier.out all_ends name_or_number arrow_name element_name ends_of pair_text sieve_text entry_text subset_text assign_text function_text value_text typed_text tuple_text tuples_line tuples_line_at tuples_list functor_of number_prefix declared_functor element_of element_along_text refusal_line answer_lines lines_from end_line report empty_document
 opened = tt
 
 tuple : List Val → Tuple
@@ -98,6 +98,14 @@ swap_refused = refl
 site_refused : report graphs [] (Refused None (NotAssociative 2 2 3)) ≡ codes "refused 33 not associative: s, s, t\n"
 unfolding opened graphs
 site_refused = refl
+
+partial_refused : report monoid [] (Refused (Some 4) (NotTotal 1 1)) ≡ codes "4 refused 51 not total: r, b\n"
+unfolding opened monoid
+partial_refused = refl
+
+ends_refused : report monoid [] (Refused None (CompositeEnds 1 1 0)) ≡ codes "refused 32 composite ends: r, r, id U\n"
+unfolding opened monoid
+ends_refused = refl
 
 text_refused : report empty_document [] (Refused None NotBuilt) ≡ codes "refused 11 not built\n"
 unfolding opened

@@ -5,3 +5,10 @@ pub mod Stages
 pub mod Refusals
 pub mod Report
 pub mod EmptyDocument
+pub mod TypeTexts
+pub mod Statements
+pub mod Tables
+pub mod CertificateLines
+pub mod FaultTexts
+pub mod AnswerLines
+pub mod WholeReport

@@ -7,8 +7,8 @@ use Rattle.topos_model.specs.declared.value.Entry.{Entry}
 use Rattle.topos_model.specs.declared.value.Assign.{Assign}
 use Rattle.topos_model.specs.declared.answer.Tuple.{Tuple}
 use Rattle.topos_model.specs.declared.doc.Doc.{Doc}
-use Rattle.topos_model.specs.Listed.{all_ends}
-use Rattle.topos_model.specs.Values.{number_of, first_of, second_of, arrows_of, entries_of, assigns_of}
+use Rattle.topos_model.specs.categories.Listed.{all_ends}
+use Rattle.topos_model.specs.types.Values.{number_of, first_of, second_of, arrows_of, entries_of, assigns_of}
 use Rattle.topos_report.specs.Lists.{comma_separated}
 use Rattle.topos_report.specs.Names.{arrow_name, element_name}
 

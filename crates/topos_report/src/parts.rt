@@ -1,6 +1,6 @@
 // The parts of a value, and a default where it is of another kind: the number 0, the element of `One`, which the caller lends, and the empty list.
 ghost use Rattle.std.specs.Prelude.{◌≡◌};
-ghost use Rattle.topos_model.specs.Values.{number_of, first_of, second_of, arrows_of, entries_of, assigns_of};
+ghost use Rattle.topos_model.specs.types.Values.{number_of, first_of, second_of, arrows_of, entries_of, assigns_of};
 
 use topos_model::{Assign, Entry, Val};
 

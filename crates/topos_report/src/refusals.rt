@@ -1,9 +1,9 @@
 // Lines of refusals.
 ghost use Rattle.std.specs.Prelude.{◌≡◌, ◌++◌, codes, OnOk, option_copied};
-ghost use Rattle.topos_report.specs.Refusals.{functor_of, number_prefix, declared_functor, element_of, action_text, refusal_line};
+ghost use Rattle.topos_report.specs.Refusals.{functor_of, number_prefix, declared_functor, element_of, element_along_text, refusal_line};
 
 use crate::bytes::{push_bytes, push_number};
-use crate::names::{ends, push_element};
+use crate::names::{ends, push_arrow, push_element};
 use crate::values::push_arrows;
 use topos_model::{Doc, Fault, NoMemory, Stmt};
 
@@ -77,6 +77,52 @@ fn push_not_built(out: &mut Vec<u8>, doc: &Doc, at: Option<u32>) -> Result<(), N
 }
 
 #[tactic(auto, unfolding(crate::specs::Refusals::refusal_line))]
+fn push_composite_missing(
+    out: &mut Vec<u8>,
+    doc: &Doc,
+    at: Option<u32>,
+    g: u32,
+    f: u32,
+) -> Result<(), NoMemory>
+    ensures { OnOk result (out.new.items ≡ out.old.items ++ refusal_line doc.now at (Fault.CompositeMissing g f)) }
+{
+    push_refused(out, at, b"30 composite missing: ")?;
+    push_arrows(out, doc, &[g, f])?;
+    push_bytes(out, b"\n")
+}
+
+#[tactic(auto, unfolding(crate::specs::Refusals::refusal_line))]
+fn push_composite_twice(
+    out: &mut Vec<u8>,
+    doc: &Doc,
+    at: Option<u32>,
+    g: u32,
+    f: u32,
+) -> Result<(), NoMemory>
+    ensures { OnOk result (out.new.items ≡ out.old.items ++ refusal_line doc.now at (Fault.CompositeTwice g f)) }
+{
+    push_refused(out, at, b"31 composite twice: ")?;
+    push_arrows(out, doc, &[g, f])?;
+    push_bytes(out, b"\n")
+}
+
+#[tactic(auto, unfolding(crate::specs::Refusals::refusal_line))]
+fn push_composite_ends(
+    out: &mut Vec<u8>,
+    doc: &Doc,
+    at: Option<u32>,
+    g: u32,
+    f: u32,
+    h: u32,
+) -> Result<(), NoMemory>
+    ensures { OnOk result (out.new.items ≡ out.old.items ++ refusal_line doc.now at (Fault.CompositeEnds g f h)) }
+{
+    push_refused(out, at, b"32 composite ends: ")?;
+    push_arrows(out, doc, &[g, f, h])?;
+    push_bytes(out, b"\n")
+}
+
+#[tactic(auto, unfolding(crate::specs::Refusals::refusal_line))]
 fn push_not_associative(
     out: &mut Vec<u8>,
     doc: &Doc,
@@ -92,20 +138,48 @@ fn push_not_associative(
     push_bytes(out, b"\n")
 }
 
-#[tactic(auto, unfolding(crate::specs::Refusals::action_text))]
-fn push_action(
+#[tactic(auto, unfolding(crate::specs::Refusals::element_along_text))]
+fn push_element_along(
     out: &mut Vec<u8>,
     doc: &Doc,
     at: Option<u32>,
-    g: u32,
     f: u32,
     x: u32,
 ) -> Result<(), NoMemory>
-    ensures { OnOk result (out.new.items ≡ out.old.items ++ action_text doc.now at g f x) }
+    ensures { OnOk result (out.new.items ≡ out.old.items ++ element_along_text doc.now at f x) }
 {
-    push_arrows(out, doc, &[g, f])?;
+    push_element_of(out, doc, functor_at(doc, at), ends(doc, f).1, x)
+}
+
+#[tactic(auto, unfolding(crate::specs::Refusals::refusal_line))]
+fn push_restriction_missing(
+    out: &mut Vec<u8>,
+    doc: &Doc,
+    at: Option<u32>,
+    f: u32,
+) -> Result<(), NoMemory>
+    ensures { OnOk result (out.new.items ≡ out.old.items ++ refusal_line doc.now at (Fault.RestrictionMissing f)) }
+{
+    push_refused(out, at, b"50 restriction missing: ")?;
+    push_arrow(out, doc, f)?;
+    push_bytes(out, b"\n")
+}
+
+#[tactic(auto, unfolding(crate::specs::Refusals::refusal_line))]
+fn push_not_total(
+    out: &mut Vec<u8>,
+    doc: &Doc,
+    at: Option<u32>,
+    f: u32,
+    x: u32,
+) -> Result<(), NoMemory>
+    ensures { OnOk result (out.new.items ≡ out.old.items ++ refusal_line doc.now at (Fault.NotTotal f x)) }
+{
+    push_refused(out, at, b"51 not total: ")?;
+    push_arrow(out, doc, f)?;
     push_bytes(out, b", ")?;
-    push_element_of(out, doc, functor_at(doc, at), ends(doc, g).1, x)
+    push_element_along(out, doc, at, f, x)?;
+    push_bytes(out, b"\n")
 }
 
 #[tactic(auto, unfolding(crate::specs::Refusals::refusal_line))]
@@ -120,7 +194,9 @@ fn push_not_functorial(
     ensures { OnOk result (out.new.items ≡ out.old.items ++ refusal_line doc.now at (Fault.NotFunctorial g f x)) }
 {
     push_refused(out, at, b"52 not functorial: ")?;
-    push_action(out, doc, at, g, f, x)?;
+    push_arrows(out, doc, &[g, f])?;
+    push_bytes(out, b", ")?;
+    push_element_along(out, doc, at, g, x)?;
     push_bytes(out, b"\n")
 }
 
@@ -136,7 +212,12 @@ pub fn push_refusal(
 {
     match fault {
         Fault::NotBuilt => push_not_built(out, doc, at),
+        Fault::CompositeMissing { g, f } => push_composite_missing(out, doc, at, *g, *f),
+        Fault::CompositeTwice { g, f } => push_composite_twice(out, doc, at, *g, *f),
+        Fault::CompositeEnds { g, f, h } => push_composite_ends(out, doc, at, *g, *f, *h),
         Fault::NotAssociative { h, g, f } => push_not_associative(out, doc, at, *h, *g, *f),
+        Fault::RestrictionMissing { f } => push_restriction_missing(out, doc, at, *f),
+        Fault::NotTotal { f, x } => push_not_total(out, doc, at, *f, *x),
         Fault::NotFunctorial { g, f, x } => push_not_functorial(out, doc, at, *g, *f, *x),
         _ => Ok(()),
     }

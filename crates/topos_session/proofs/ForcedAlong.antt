@@ -6,17 +6,17 @@ use Rattle.std.proofs.lemmas.List.{length-reverse, reverse-append}
 use Rattle.finite_lists.specs.Members.{In}
 use Rattle.finite_lists.proofs.Lists.{In-append_cases, In_at, all_fails}
 use Rattle.topos_model.specs.declared.term.Term.{Term, Var, Eq, Truth, Falsity, And, Implies}
-use Rattle.topos_model.specs.Category.{Category, dom, cod, compose, into}
-use Rattle.topos_model.specs.Types.{Presheaf}
+use Rattle.topos_model.specs.categories.Category.{Category, dom, cod, compose, into}
+use Rattle.topos_model.specs.types.Types.{Presheaf}
 use Rattle.topos_model.specs.Laws.{IsCategory}
-use Rattle.topos_model.specs.Form.{is_propositional}
+use Rattle.topos_model.specs.statements.Form.{is_propositional}
 use Rattle.topos_model.proofs.FormEquations.{is_propositional-And, is_propositional-Implies}
-use Rattle.topos_model.specs.Forcing.{forces}
+use Rattle.topos_model.specs.formulas.Forcing.{forces}
 use Rattle.topos_session.specs.declared.variable.Variable.{Variable}
 use Rattle.topos_session.specs.Variables.{AreFunctors, AreVariables, assigned, element_along, forced_along, presheaf_world}
 use Rattle.topos_session.proofs.PropositionalForcing.{forced_inside, forced_inside-Truth, forced_inside-Falsity, forced_inside-And, forced_inside-Eq, forced_inside-Implies, forced_inside_identity}
 
-In-reverse : {A : Type 0} (xs : List A) (x : A) → In (reverse xs) x → In xs x
+pub In-reverse : {A : Type 0} (xs : List A) (x : A) → In (reverse xs) x → In xs x
 In-reverse [] x i = i
 In-reverse (y ∷ xs) x i =
     elim (In-append_cases (reverse xs) (y ∷ []) x (rw (reverse-append (y ∷ []) xs) at i)) [

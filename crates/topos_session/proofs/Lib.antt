@@ -7,7 +7,13 @@ pub mod ForcedAlong
 pub mod TupleExtensions
 pub mod PushedTuples
 pub mod StatementForms
-pub mod DocumentForms
+pub mod DistinctNumbers
+pub mod Listings
+pub mod DocumentRanges
 pub mod StatementAnswers
+pub mod PropositionalTypes
+pub mod TrivialSites
+pub mod SiteRefusals
+pub mod StagedStatements
 pub mod SessionSteps
 pub mod RunSteps

@@ -7,11 +7,11 @@ use Rattle.finite_lists.proofs.Lists.{list_all_same}
 use Rattle.topos_model.specs.declared.ty.Ty.{Ty, One as OneTy}
 use Rattle.topos_model.specs.declared.value.Val.{Val, El, Star}
 use Rattle.topos_model.specs.declared.term.Term.{Term, Var, Eq, Truth, Falsity, And, Implies}
-use Rattle.topos_model.specs.Category.{Category, dom, compose, into}
-use Rattle.topos_model.specs.Values.{same}
-use Rattle.topos_model.specs.Types.{Presheaf}
+use Rattle.topos_model.specs.categories.Category.{Category, dom, compose, into}
+use Rattle.topos_model.specs.types.Values.{same}
+use Rattle.topos_model.specs.types.Types.{Presheaf}
 use Rattle.topos_model.specs.Laws.{IsCategory, IsInto}
-use Rattle.topos_model.specs.Forcing.{World, Assigned, along, forces, value, always, and_forced, implies_forced}
+use Rattle.topos_model.specs.formulas.Forcing.{World, Assigned, along, forces, value, always, and_forced, implies_forced}
 use Rattle.topos_model.proofs.ValueEquations.{same-El}
 use Rattle.topos_model.proofs.MeaningEquations.{value-Var, forces-Eq, forces-Truth, forces-Falsity, forces-And, forces-Implies}
 use Rattle.topos_model.proofs.ArrowsInto.{In-into_from}

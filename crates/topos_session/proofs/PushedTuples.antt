@@ -12,13 +12,14 @@ use Rattle.finite_lists.proofs.Lists.{In-append_cases}
 use Rattle.topos_model.specs.declared.ty.Ty.{Ty, Base}
 use Rattle.topos_model.specs.declared.value.Val.{Val, El}
 use Rattle.topos_model.specs.declared.term.Term.{Term}
-use Rattle.topos_model.specs.Category.{Category}
-use Rattle.topos_model.specs.Types.{Presheaf, base_elements}
+use Rattle.topos_model.specs.categories.Category.{Category}
+use Rattle.topos_model.specs.types.Types.{Presheaf, base_elements}
 use Rattle.topos_model.specs.Laws.{IsCategory, size}
-use Rattle.topos_model.specs.Form.{is_functor_name, named, is_propositional}
-use Rattle.topos_model.specs.Forcing.{Assigned, forces, values, shown}
+use Rattle.topos_model.specs.statements.Needs.{named}
+use Rattle.topos_model.specs.statements.Form.{is_functor_name, is_propositional}
+use Rattle.topos_model.specs.formulas.Forcing.{Assigned, forces, values, shown}
 use Rattle.topos_model.specs.declared.answer.Tuple.{Tuple}
-use Rattle.topos_model.specs.Run.{tuple_of}
+use Rattle.topos_model.specs.statements.Answers.{tuple_of}
 use Rattle.topos_model.proofs.TypeEquations.{elements-Base}
 use Rattle.topos_session.specs.declared.variable.Variable.{Variable}
 use Rattle.topos_session.specs.Extensions.{extensions}

@@ -2,10 +2,10 @@
 use Rattle.std.proofs.Common.{◌≡◌, ℕ, ◌<◌, List, [], ◌∷◌, map, refl, ap, ◌∙◌}
 use Rattle.topos_model.specs.declared.ty.Ty.{Ty, Base}
 use Rattle.topos_model.specs.declared.value.Val.{Val, El}
-use Rattle.topos_model.specs.Category.{Category, dom, compose}
-use Rattle.topos_model.specs.Types.{Presheaf, restr, base_along}
+use Rattle.topos_model.specs.categories.Category.{Category, dom, compose}
+use Rattle.topos_model.specs.types.Types.{Presheaf, restr, base_along}
 use Rattle.topos_model.specs.Laws.{IsCategory, IsInto, act}
-use Rattle.topos_model.specs.Forcing.{along}
+use Rattle.topos_model.specs.formulas.Forcing.{along}
 use Rattle.topos_model.proofs.TypeEquations.{restr-Base}
 use Rattle.topos_model.proofs.ValueEquations.{number_of-El}
 use Rattle.topos_session.specs.declared.variable.Variable.{Variable}

@@ -4,11 +4,11 @@ use Rattle.std.specs.List.{list_any, list_all}
 use Rattle.std.proofs.lemmas.Bool.{or_cases}
 use Rattle.finite_lists.specs.Members.{In}
 use Rattle.finite_lists.proofs.Lists.{In-filter_from, all_each}
-use Rattle.topos_model.specs.Category.{Category, into, has, sieves}
-use Rattle.topos_model.specs.Cover.{contains, is_listed, is_cover, covers}
-use Rattle.topos_model.specs.Types.{Presheaf}
+use Rattle.topos_model.specs.categories.Category.{Category, into, has, sieves}
+use Rattle.topos_model.specs.topologies.Cover.{contains, is_listed, is_cover, covers}
+use Rattle.topos_model.specs.types.Types.{Presheaf}
 use Rattle.topos_model.specs.Laws.{IsCategory}
-use Rattle.topos_model.specs.Forcing.{Assigned, locally, falsity_forced}
+use Rattle.topos_model.specs.formulas.Forcing.{Assigned, locally, falsity_forced}
 use Rattle.topos_model.proofs.ArrowsInto.{In-into}
 use Rattle.topos_session.specs.Variables.{presheaf_world}
 

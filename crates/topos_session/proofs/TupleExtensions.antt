@@ -6,7 +6,7 @@ use Rattle.std.proofs.lemmas.Grind.{flat_map-append}
 use Rattle.std.proofs.lemmas.List.Folds.{flat_map-map}
 use Rattle.std.proofs.lemmas.List.Concat.{flat_map_single}
 use Rattle.topos_model.specs.declared.ty.Ty.{Ty}
-use Rattle.topos_model.specs.Forcing.{World, Assigned, tuples, values}
+use Rattle.topos_model.specs.formulas.Forcing.{World, Assigned, tuples, values}
 use Rattle.topos_session.specs.Extensions.{extensions}
 
 flat_map-flat_map : {A B C : Type 0} (g : B → List C) (f : A → List B) (xs : List A) → flat_map g (flat_map f xs) ≡ flat_map (λ x. flat_map g (f x)) xs

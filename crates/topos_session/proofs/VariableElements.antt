@@ -4,10 +4,10 @@ use Rattle.std.proofs.lemmas.List.{get_or_default, get_or-reverse, length-map, l
 use Rattle.std.proofs.lemmas.Option.{slice_get_past}
 use Rattle.finite_lists.proofs.Lists.{In_at}
 use Rattle.topos_model.specs.declared.term.Term.{Term, Var}
-use Rattle.topos_model.specs.Category.{Category, cod}
-use Rattle.topos_model.specs.Types.{Presheaf}
+use Rattle.topos_model.specs.categories.Category.{Category, cod}
+use Rattle.topos_model.specs.types.Types.{Presheaf}
 use Rattle.topos_model.specs.Laws.{act}
-use Rattle.topos_model.specs.Form.{variable_functor}
+use Rattle.topos_model.specs.statements.Form.{variable_functor}
 use Rattle.topos_model.proofs.FormEquations.{variable_functor-Var}
 use Rattle.topos_session.specs.declared.variable.Variable.{Variable}
 use Rattle.topos_session.specs.Variables.{none, functor_at, AreFunctors, IsVariable, AreVariables, functors_inside, element_along}

@@ -1,4 +1,5 @@
 pub mod Extensions
 pub mod Variables
 pub mod Progress
+pub mod Statements
 pub mod Steps

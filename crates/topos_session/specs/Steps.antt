@@ -1,52 +1,56 @@
--- One statement of a run that is under way.
-use Rattle.std.specs.Prelude.{◌≡◌, ◌+◌, true, List, length, slice_get, None, Some, ⊤}
+-- The beginning of a run, and one statement of a run that is under way.
+use Rattle.std.specs.Prelude.{◌≡◌, ℕ, ◌+◌, true, [], slice_get, None, Some, ⊤}
 use Rattle.topos_model.specs.declared.doc.Doc.{Doc}
 use Rattle.topos_model.specs.declared.stmt.Stmt.{Stmt}
 use Rattle.topos_model.specs.declared.answer.Answer.{Answer}
+use Rattle.topos_model.specs.declared.answer.End.TheVariants as end
+use Rattle.topos_model.specs.declared.fault.Fault.TheVariants as refused
+use Rattle.fin_category.specs.declared.fault.CatFault.{CatFault}
+use Rattle.fin_category.specs.declared.fault.CatFault.TheVariants as category_fault
 use Rattle.topos_session.specs.declared.stop.Stop.{Stop}
 use Rattle.topos_session.specs.declared.stop.Stop.TheVariants as stop
 use Rattle.topos_session.specs.declared.stop.SiteStop.{SiteStop}
 use Rattle.topos_session.specs.declared.stop.SiteStop.TheVariants as site_stop
-use Rattle.topos_model.specs.Category.{Category}
-use Rattle.topos_model.specs.Types.{Presheaf}
-use Rattle.topos_model.specs.Forcing.{World}
-use Rattle.topos_model.specs.Form.{declared_after}
-use Rattle.topos_model.specs.Run.{Answers, refusal, site_refusal, first_world}
-use Rattle.topos_session.specs.Variables.{AreFunctors, presheaf_world}
+use Rattle.topos_model.specs.statements.Declarations.{nothing}
+use Rattle.topos_model.specs.statements.Form.{has_range}
+use Rattle.topos_model.specs.statements.Run.{site_refusal, IsAnswered, IsRefused}
+use Rattle.topos_model.specs.statements.Built.{today}
+use Rattle.topos_model.specs.statements.StagedRun.{StagedRunOf}
 use Rattle.topos_session.specs.Progress.{Progress}
 
--- a run that begins: the site is not refused, and nothing is answered yet
-pub record IsOpened (doc : Doc) (p : Progress) : Type 0 where
-  pub accepted : site_refusal doc ≡ None
-  pub begins : p ≡ record { doc = doc; world = first_world doc; answered = 0; live = true }
+-- the stop by a fault of a listed category
+abbrev pub category_stop : Doc → CatFault → SiteStop
+category_stop doc (category_fault.CompositeMissing g f) = site_stop.Refused doc (refused.CompositeMissing g f)
+category_stop doc (category_fault.CompositeTwice g f) = site_stop.Refused doc (refused.CompositeTwice g f)
+category_stop doc (category_fault.CompositeEnds g f h) = site_stop.Refused doc (refused.CompositeEnds g f h)
+category_stop doc (category_fault.NotAssociative h g f) = site_stop.Refused doc (refused.NotAssociative h g f)
+category_stop doc category_fault.NoMemory = site_stop.NoMemory
 
--- the site is refused, and the document is handed back
+-- a run that begins: nothing refuses the document before its statements, and nothing is answered yet
+pub record IsOpened (doc : Doc) (p : Progress) : Type 0 where
+  pub range : has_range doc ≡ true
+  pub accepted : site_refusal today doc ≡ None
+  pub begins : p ≡ record { doc = doc; declared = nothing; answered = 0; live = true }
+
+-- the run is no more than a refusal, and the document is handed back
 abbrev pub IsSiteStop : Doc → SiteStop → Type 0
-IsSiteStop doc (site_stop.Refused back fault) = (back ≡ doc) × (site_refusal doc ≡ Some fault)
+IsSiteStop doc (site_stop.Refused back fault) = (back ≡ doc) × ((budget : ℕ) → StagedRunOf doc budget [] (end.Refused None fault))
 IsSiteStop doc site_stop.NoMemory = ⊤
 
--- a statement is answered, with functors before it and behind it
-pub record IsAnswered (k : Category) (before : List Presheaf) (stmt : Stmt) (answer : Answer) (after : List Presheaf) : Type 0 where
-  pub accepted : refusal (presheaf_world k before) stmt ≡ None
-  pub answers : Answers (presheaf_world k before) stmt answer (presheaf_world k after)
-  pub lawful : AreFunctors k after
-  pub declared : length after ≡ declared_after (length before) stmt
-
--- a statement is refused, or no memory was left
-abbrev pub IsRefused : World → Stmt → Stop → Type 0
-IsRefused w stmt (stop.Refused fault) = refusal w stmt ≡ Some fault
-IsRefused w stmt stop.NoMemory = ⊤
-
--- the next statement gave this answer, and the run goes on behind it
+-- the next statement gave this answer, and the run goes on behind it; no budget is spent, since cells are not counted
 pub record IsStep (p : Progress) (answer : Answer) (q : Progress) : Type 0 where
   pub stmt : Stmt
   pub next : slice_get p.doc.stmts p.answered ≡ Some stmt
-  pub accepted : refusal p.world stmt ≡ None
-  pub answers : Answers p.world stmt answer q.world
+  pub answers : (budget : ℕ) → IsAnswered today p.doc budget p.declared stmt answer q.declared
   pub moved : (q.doc ≡ p.doc) × (q.answered ≡ p.answered + 1) × (q.live ≡ true)
+
+-- a statement is refused, or no memory was left
+abbrev pub IsStatementStop : Progress → Stmt → Stop → Type 0
+IsStatementStop p stmt (stop.Refused fault) = (budget : ℕ) → IsRefused today p.doc budget p.declared stmt fault
+IsStatementStop p stmt stop.NoMemory = ⊤
 
 -- the next statement gave no answer
 pub record IsStop (p : Progress) (stop : Stop) : Type 0 where
   pub stmt : Stmt
   pub next : slice_get p.doc.stmts p.answered ≡ Some stmt
-  pub refused : IsRefused p.world stmt stop
+  pub refused : IsStatementStop p stmt stop

@@ -4,10 +4,10 @@ use Rattle.finite_lists.specs.Members.{In}
 use Rattle.topos_model.specs.declared.ty.Ty.{Ty, Base}
 use Rattle.topos_model.specs.declared.value.Val.{Val, El}
 use Rattle.topos_session.specs.declared.variable.Variable.{Variable}
-use Rattle.topos_model.specs.Category.{Category, dom}
-use Rattle.topos_model.specs.Types.{Presheaf}
+use Rattle.topos_model.specs.categories.Category.{Category, dom}
+use Rattle.topos_model.specs.types.Types.{Presheaf}
 use Rattle.topos_model.specs.Laws.{IsFunctor, size, act}
-use Rattle.topos_model.specs.Forcing.{World, Assigned, along, forces, values}
+use Rattle.topos_model.specs.formulas.Forcing.{World, Assigned, along, forces, values}
 use Rattle.topos_model.specs.declared.term.Term.{Term}
 use Rattle.topos_session.specs.Extensions.{extensions}
 

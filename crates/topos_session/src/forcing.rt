@@ -1,9 +1,9 @@
 // Forcing of propositional formulas over presheaves.
 ghost use Rattle.std.specs.Prelude.{◌≡◌, ◌≢◌, ◌<◌, ℕ, true, None, List, map, reverse, length};
 ghost use Rattle.topos_model.specs.declared.term.Term.{Var};
-ghost use Rattle.topos_model.specs.Category.{cod};
+ghost use Rattle.topos_model.specs.categories.Category.{cod};
 ghost use Rattle.topos_model.specs.Laws.{IsCategory};
-ghost use Rattle.topos_model.specs.Form.{variable_functor, is_propositional};
+ghost use Rattle.topos_model.specs.statements.Form.{variable_functor, is_propositional};
 ghost use Rattle.topos_session.specs.Variables.{AreFunctors, AreVariables, functors_inside, element_along, forced_along};
 
 use crate::Variable;

@@ -1,22 +1,19 @@
-// Whether a document has the form that is run.
-ghost use Rattle.std.specs.Prelude.{◌≡◌, ◌<◌, ◌+◌, map, reverse, slice_get, leb, IfOk};
+// Whether a statement and a topology are among those that are run.
+ghost use Rattle.std.specs.Prelude.{◌≡◌, ◌&&◌, map, reverse, slice_get, eqb};
 ghost use Rattle.std.specs.List.{list_all};
-ghost use Rattle.topos_model.specs.Form.{is_functor_name, named, variable_functor, same_functor, is_propositional, is_trivial, is_run_statement, declared_after, are_run, max_statements, is_run};
+ghost use Rattle.topos_model.specs.statements.Needs.{named};
+ghost use Rattle.topos_model.specs.statements.Cells.{is_named};
+ghost use Rattle.topos_model.specs.statements.Form.{variable_functor, same_functor, is_propositional, is_trivial};
 
-use fin_category::all_ends;
-use std::alloc::Global;
-use topos_model::{Doc, NoMemory, Stmt, Term, TopDecl, Ty};
+use topos_model::{Ctx, Term, TopDecl, Ty};
 
-// How many statements a document may have, those of its site among them.
-const MAX_STATEMENTS: u32 = 10_000;
-
-// Whether a type names one of the first so many functors.
-#[tactic(auto, using(topos_model::proofs::FormEquations::name_rules))]
-fn is_functor_name(functors: usize, ty: &Ty) -> bool
-    ensures { result ≡ is_functor_name functors ty.now }
+// Whether a type names a functor.
+#[tactic(auto, using(topos_model::proofs::FormEquations::known_rules))]
+fn is_named(ty: &Ty) -> bool
+    ensures { result ≡ is_named ty.now }
 {
     match ty {
-        Ty::Base(functor) => (*functor as usize) < functors,
+        Ty::Base(_) => true,
         Ty::One => false,
         Ty::Omega => false,
         Ty::Two(_, _) => false,
@@ -25,20 +22,20 @@ fn is_functor_name(functors: usize, ty: &Ty) -> bool
     }
 }
 
-pub fn are_functor_names(functors: usize, types: &[Ty]) -> bool
-    ensures { result ≡ list_all (is_functor_name functors) types.now }
+fn are_named(types: &[Ty]) -> bool
+    ensures { result ≡ list_all is_named types.now }
 {
     for ty in types {
-        if !is_functor_name(functors, ty) {
+        if !is_named(ty) {
             return false;
         }
     }
     true
 }
 
-// The functor that a type names.
+/// The functor that a type names.
 #[tactic(auto, using(topos_model::proofs::FormEquations::name_rules))]
-pub fn named(ty: &Ty) -> u32
+pub(crate) fn named(ty: &Ty) -> u32
     ensures { result ≡ named ty.now }
 {
     match ty {
@@ -103,7 +100,7 @@ fn same_functor(left: Option<u32>, right: Option<u32>) -> bool
 
 // Whether a formula is propositional over variables of these types, the outermost first.
 #[tactic(auto, using(topos_model::proofs::FormEquations::propositional_rules))]
-pub fn is_propositional(types: &[Ty], phi: &Term) -> bool
+fn is_propositional(types: &[Ty], phi: &Term) -> bool
     ensures { result ≡ is_propositional (map named (reverse types.now)) phi.now }
 {
     match phi {
@@ -137,8 +134,8 @@ pub fn is_propositional(types: &[Ty], phi: &Term) -> bool
     }
 }
 
-// Whether the maximal sieves alone cover.
-pub fn is_trivial(tops: &[TopDecl]) -> bool
+/// Whether the maximal sieves alone cover.
+pub(crate) fn is_trivial(tops: &[TopDecl]) -> bool
     ensures { result ≡ is_trivial tops.now }
 {
     match tops {
@@ -147,85 +144,10 @@ pub fn is_trivial(tops: &[TopDecl]) -> bool
     }
 }
 
-// Whether there are no more statements than a document may have.
-fn are_few(site_len: u32, stmts: usize) -> bool
-    ensures { result ≡ leb (site_len + stmts) max_statements }
+/// Whether a formula over a context is one that is shown: propositional, over functors, and without a topology of its own.
+pub(crate) fn is_shown(under: u32, ctx: &Ctx, phi: &Term) -> bool
+    ensures { result ≡ (eqb under 0 && list_all is_named ctx.now.types && is_propositional (map named (reverse ctx.now.types)) phi.now) }
 {
-    site_len <= MAX_STATEMENTS && stmts <= (MAX_STATEMENTS - site_len) as usize
-}
-
-// Whether a statement is one that is run, where so many functors are declared before it.
-#[tactic(auto, using(crate::proofs::StatementForms::statement_rules))]
-fn is_run_statement(
-    alloc: Global,
-    objects: u32,
-    ends: &[(u32, u32)],
-    declared: usize,
-    stmt: &Stmt,
-) -> Result<bool, NoMemory>
-    ensures { IfOk result (λ answer. answer ≡ is_run_statement objects ends.now declared stmt.now) }
-{
-    match stmt {
-        Stmt::Presheaf { functor, raw } => {
-            if *functor as usize != declared {
-                return Ok(false);
-            }
-            presheaf_core::is_whole(alloc, objects, ends, raw)
-        }
-        Stmt::Show { under, ctx, phi } => {
-            let types = ctx.types.as_slice();
-            Ok(*under == 0 && are_functor_names(declared, types) && is_propositional(types, phi))
-        }
-        _ => Ok(false),
-    }
-}
-
-// How many functors are declared after a statement.
-#[tactic(auto, using(crate::proofs::StatementForms::statement_rules))]
-fn declared_after(declared: usize, stmt: &Stmt) -> usize
-    requires { declared < usize.MAX }
-    ensures { result ≡ declared_after declared stmt.now }
-{
-    match stmt {
-        Stmt::Presheaf { .. } => declared + 1,
-        _ => declared,
-    }
-}
-
-// Whether all statements are among those that are run.
-fn are_run(
-    alloc: Global,
-    objects: u32,
-    ends: &[(u32, u32)],
-    stmts: &[Stmt],
-) -> Result<bool, NoMemory>
-    ensures { IfOk result (λ answer. answer ≡ are_run objects ends.now 0 stmts.now) }
-{
-    let mut declared = 0;
-    for stmt in stmts {
-        if !is_run_statement(alloc, objects, ends, declared, stmt)? {
-            return Ok(false);
-        }
-        declared = declared_after(declared, stmt);
-    }
-    Ok(true)
-}
-
-/// Whether a document has the form that is run. Any document may be given; want of memory is the only error.
-pub(crate) fn is_run(alloc: Global, doc: &Doc) -> Result<bool, NoMemory>
-    ensures { IfOk result (λ answer. answer ≡ is_run doc.now) }
-{
-    if !are_few(doc.site_len, doc.stmts.len()) || !is_trivial(doc.tops.as_slice()) {
-        return Ok(false);
-    }
-    if !fin_category::is_whole(alloc, &doc.cat)? {
-        return Ok(false);
-    }
-    let ends = all_ends(alloc, &doc.cat)?;
-    are_run(
-        alloc,
-        doc.cat.objects,
-        ends.as_slice(),
-        doc.stmts.as_slice(),
-    )
+    let types = ctx.types.as_slice();
+    under == 0 && are_named(types) && is_propositional(types, phi)
 }

@@ -4,6 +4,8 @@
 mod answer;
 mod forcing;
 mod form;
+mod listing;
+mod range;
 mod run;
 mod session;
 mod show;

@@ -1,6 +1,6 @@
 // The run of a whole document.
-ghost use Rattle.std.specs.Prelude.{◌≡◌, IfOk};
-ghost use Rattle.topos_model.specs.Run.{RunOf};
+ghost use Rattle.std.specs.Prelude.{◌≡◌, ℕ, IfOk};
+ghost use Rattle.topos_model.specs.statements.StagedRun.{StagedRunOf};
 
 use crate::{Session, SiteStop, Stop};
 use std::alloc::Global;
@@ -15,9 +15,9 @@ pub struct Run {
 }
 
 /// Runs a document: its site is checked, and its statements are answered one by one. A refusal is an end of the run, and it bears the number of the
-/// refused statement, or none where the site is refused. Want of memory is the only error.
+/// refused statement, or none where the site is refused. No budget is spent, since cells are not counted. Want of memory is the only error.
 pub fn run_document(alloc: Global, doc: Doc) -> Result<Run, NoMemory>
-    ensures runs { IfOk result (λ run. RunOf run.doc run.answers run.end) }
+    ensures runs { IfOk result (λ run. (budget : ℕ) → StagedRunOf run.doc budget run.answers run.end) }
     ensures doc { IfOk result (λ run. run.doc ≡ doc) }
 {
     let mut answers = Row::new(alloc);

@@ -1,14 +1,35 @@
 // A document that is run statement by statement.
 ghost use Rattle.std.specs.Prelude.{◌≡◌, ◌<◌, ◌+◌, true, false, leb, length, IfOk, IfErr, OnErr};
+ghost use Rattle.topos_session.specs.Steps.{category_stop};
 
 use crate::answer::answer;
-use crate::form::is_run;
+use crate::form::is_trivial;
+use crate::range::has_range;
 use crate::{SiteStop, Stop};
 use fin_category::{Cat, CatFault};
 use presheaf_core::Functor;
 use std::alloc::Global;
 use std::marker::Model;
 use topos_model::{Answer, Doc, Fault, Row};
+
+// The fault of the category refuses the document.
+fn category_stop(doc: Doc, fault: CatFault) -> SiteStop
+    ensures { result ≡ category_stop doc fault }
+{
+    match fault {
+        CatFault::CompositeMissing { g, f } => {
+            SiteStop::Refused(doc, Fault::CompositeMissing { g, f })
+        }
+        CatFault::CompositeTwice { g, f } => SiteStop::Refused(doc, Fault::CompositeTwice { g, f }),
+        CatFault::CompositeEnds { g, f, h } => {
+            SiteStop::Refused(doc, Fault::CompositeEnds { g, f, h })
+        }
+        CatFault::NotAssociative { h, g, f } => {
+            SiteStop::Refused(doc, Fault::NotAssociative { h, g, f })
+        }
+        CatFault::NoMemory => SiteStop::NoMemory,
+    }
+}
 
 /// A document whose site is lawful, and how far its statements are answered.
 #[derive(Drop)]
@@ -22,8 +43,7 @@ pub struct Session {
 }
 
 impl Model for Session {
-    ghost use Rattle.topos_session.specs.Variables.{presheaf_world};
-    ghost use Rattle.topos_session.specs.Progress.{Progress, IsUnderWay};
+    ghost use Rattle.topos_session.specs.Progress.{Progress, declared_by, IsUnderWay};
 
     ghost Value = { Progress };
 
@@ -34,7 +54,7 @@ impl Model for Session {
 
     ghost coded = { Prim.hlevel (codes, ty.the_row.coded, term.the_row.coded, value.the_row.coded) };
 
-    ghost view = { λ s. record { doc = s.doc; world = presheaf_world s.cat s.functors; answered = s.answered; live = s.live } };
+    ghost view = { λ s. record { doc = s.doc; declared = declared_by s.doc s.functors s.answered; answered = s.answered; live = s.live } };
 
     ghost invariant = { λ s. IsUnderWay s.doc s.cat s.functors s.answered };
 }
@@ -42,29 +62,30 @@ impl Model for Session {
 impl Session {
     ghost use Rattle.topos_session.specs.Steps.{IsOpened, IsSiteStop, IsStep, IsStop};
 
-    /// Begins a document: nothing is answered yet. A document that does not have the form that is run, or whose category is not associative,
-    /// is refused and handed back. Where no memory is left it is given up.
+    /// Begins a document: nothing is answered yet. A document whose numbers are out of range is refused as not built; then the category's first fault refuses it,
+    /// and then it is refused as not built where other sieves cover than the maximal ones. A refused document is handed back; where no memory is left it is given up.
     pub fn new(alloc: Global, doc: Doc) -> Result<Session, SiteStop>
         ensures opened { IfOk result (λ session. IsOpened doc session) }
         ensures stop { IfErr result (λ stop. IsSiteStop doc stop) }
     {
-        if !is_run(alloc, &doc)? {
+        if !has_range(alloc, &doc)? {
             return Err(SiteStop::Refused(doc, Fault::NotBuilt));
         }
-        match Cat::check(alloc, &doc.cat) {
-            Ok(cat) => Ok(Session {
-                alloc,
-                doc,
-                cat,
-                functors: Row::new(alloc),
-                answered: 0,
-                live: true,
-            }),
-            Err(CatFault::NotAssociative { h, g, f }) => {
-                Err(SiteStop::Refused(doc, Fault::NotAssociative { h, g, f }))
-            }
-            Err(CatFault::NoMemory) => Err(SiteStop::NoMemory),
+        let cat = match Cat::check(alloc, &doc.cat) {
+            Ok(cat) => cat,
+            Err(fault) => return Err(category_stop(doc, fault)),
+        };
+        if !is_trivial(doc.tops.as_slice()) {
+            return Err(SiteStop::Refused(doc, Fault::NotBuilt));
         }
+        Ok(Session {
+            alloc,
+            doc,
+            cat,
+            functors: Row::new(alloc),
+            answered: 0,
+            live: true,
+        })
     }
 
     /// Whether each statement so far gave an answer. A session that is not live goes no further.

@@ -1,4 +1,5 @@
 // Why a site or a statement gives no answer.
+use presheaf_core::FunctorFault;
 use topos_model::{Doc, Fault, NoMemory};
 
 /// Why a document's site is not run.
@@ -36,5 +37,25 @@ impl From<NoMemory> for Stop {
 
     fn from(_error: NoMemory) -> Stop {
         Stop::NoMemory
+    }
+}
+
+impl From<FunctorFault> for Stop {
+    ghost use Rattle.std.specs.Prelude.{◌≡◌};
+    ghost use Rattle.topos_session.specs.Statements.{presheaf_stop};
+
+    ghost from_gives = { λ fault stop. stop ≡ presheaf_stop fault };
+
+    fn from(fault: FunctorFault) -> Stop {
+        match fault {
+            FunctorFault::RestrictionMissing { f } => {
+                Stop::Refused(Fault::RestrictionMissing { f })
+            }
+            FunctorFault::NotTotal { f, x } => Stop::Refused(Fault::NotTotal { f, x }),
+            FunctorFault::NotFunctorial { g, f, x } => {
+                Stop::Refused(Fault::NotFunctorial { g, f, x })
+            }
+            FunctorFault::NoMemory => Stop::NoMemory,
+        }
     }
 }

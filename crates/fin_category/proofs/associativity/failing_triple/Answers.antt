@@ -1,6 +1,6 @@
 use Rattle.std.proofs.Common.{◌≡◌, ◌<◌, ◌≤◌, length, get_or, refl, sym, ap, ◌∙◌, zero-add, arith}
 use Rattle.std.proofs.lemmas.List.FromFn.{length-range_with_len, get_or-range_with_len}
-use Rattle.topos_model.specs.Category.{arrows}
+use Rattle.topos_model.specs.categories.Category.{arrows}
 use Rattle.fin_category.specs.Associativity.{triple_from, failing_triple}
 use Rattle.finite_lists.proofs.FirstAnswers.{first_left-none, first_left-some, first_left-end}
 use Rattle.fin_category.proofs.associativity.failing_triple.Goals as goal

@@ -1,6 +1,6 @@
 use Rattle.std.proofs.Common.{◌≡◌, drop}
 use Rattle.finite_lists.specs.First.{first}
-use Rattle.topos_model.specs.Category.{arrows}
+use Rattle.topos_model.specs.categories.Category.{arrows}
 use Rattle.fin_category.specs.Associativity.{triple_from, failing_triple}
 use Rattle.fin_category.proofs.associativity.failing_triple.Given as goal
 

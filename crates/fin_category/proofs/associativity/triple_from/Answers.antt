@@ -1,5 +1,5 @@
 use Rattle.std.proofs.Common.{sym, ap, ◌∙◌}
-use Rattle.topos_model.specs.Category.{into}
+use Rattle.topos_model.specs.categories.Category.{into}
 use Rattle.finite_lists.specs.First.{first}
 use Rattle.fin_category.specs.Associativity.{triple_from_pair, triple_from}
 use Rattle.fin_category.proofs.associativity.triple_from.Goals as goal

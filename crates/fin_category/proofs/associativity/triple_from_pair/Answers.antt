@@ -1,5 +1,5 @@
 use Rattle.std.proofs.Common.{◌≡◌, ℕ, get_or, sym, ap, ◌∙◌}
-use Rattle.topos_model.specs.Category.{compose, into}
+use Rattle.topos_model.specs.categories.Category.{compose, into}
 use Rattle.finite_lists.specs.First.{first}
 use Rattle.fin_category.specs.Associativity.{triple_at, triple_from_pair}
 use Rattle.finite_lists.proofs.FirstAnswers.{first_left-none, first_left-some}

@@ -2,7 +2,7 @@ use Rattle.std.proofs.Common.{ℕ, [], ◌∷◌, ◌++◌, map, sym, ap, ◌∙
 use Rattle.std.specs.List.{range_with_len}
 use Rattle.std.proofs.lemmas.List.{take_all}
 use Rattle.std.proofs.lemmas.List.FromFn.{map-range_with_len_more}
-use Rattle.topos_model.specs.Listed.{all_ends}
+use Rattle.topos_model.specs.categories.Listed.{all_ends}
 use Rattle.fin_category.proofs.ends.all_ends.Goals as goal
 
 pub loop-c-preserved : goal.loop-c-preserved

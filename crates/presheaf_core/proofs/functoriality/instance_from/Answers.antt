@@ -1,5 +1,5 @@
 use Rattle.std.proofs.Common.{sym, ap, ◌∙◌}
-use Rattle.topos_model.specs.Category.{into}
+use Rattle.topos_model.specs.categories.Category.{into}
 use Rattle.finite_lists.specs.First.{first}
 use Rattle.presheaf_core.specs.Functoriality.{instance_from_pair, instance_from}
 use Rattle.presheaf_core.proofs.functoriality.instance_from.Goals as goal

@@ -1,7 +1,7 @@
 use Rattle.std.proofs.Common.{◌≡◌, ◌-◌}
 use Rattle.std.specs.List.{range_with_len}
 use Rattle.finite_lists.specs.First.{first}
-use Rattle.topos_model.specs.Category.{cod}
+use Rattle.topos_model.specs.categories.Category.{cod}
 use Rattle.topos_model.specs.Laws.{size}
 use Rattle.presheaf_core.specs.Functoriality.{instance_at, instance_from_pair}
 use Rattle.presheaf_core.proofs.functoriality.instance_from_pair.Given as goal

@@ -1,5 +1,5 @@
 use Rattle.std.proofs.Common.{◌≡◌, ◌+◌, ◌*◌, ◌++◌, codes, take}
-use Rattle.topos_model.specs.Nodes.{nodes}
+use Rattle.topos_model.specs.types.Nodes.{nodes}
 use Rattle.topos_report.specs.Lists.{comma_separated}
 use Rattle.topos_report.specs.Values.{entry_text, assign_text, value_text}
 use Rattle.topos_report.proofs.values.+values.Given as goal

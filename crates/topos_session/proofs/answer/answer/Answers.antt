@@ -1,27 +1,37 @@
-use Rattle.std.proofs.Common.{length}
-use Rattle.topos_session.proofs.StatementAnswers.{whole_presheaf, shown_form, declares, shows}
+use Rattle.std.proofs.Common.{sym, subst, ◌∙◌, length}
+use Rattle.topos_session.proofs.StatementAnswers.{listing_of, known_types, shown_parts, all_declared, refused_presheaf, refused_formula, refused_other, declares, shows}
 use Rattle.topos_session.proofs.answer.answer.Goals as goal
 
 pub check-requires : goal.check-requires
-check-requires c =
-    whole_presheaf c.args.cat.now.objects c.args.cat.now.ends (length c.args.functors.now) c.args.stmt.now c.in-Presheaf.functor c.in-Presheaf.raw c.in-Presheaf.is c.requires.form
+check-requires c = listing_of c.args.cat.now (length c.args.functors.now) c.args.stmt.now c.in-Presheaf.functor c.in-Presheaf.raw c.in-Presheaf.is c.requires.range
+
+pub returns-then-not-is_shown-clause-stop : goal.returns-then-not-is_shown-clause-stop
+returns-then-not-is_shown-clause-stop c =
+    let s = c.in-Show in
+    refused_formula c.args.cat.now c.args.stmt.now s.under s.ctx s.phi s.is (sym c.is_shown.ensures ∙ c.if-not-is_shown.true)
 
 pub shown-requires-clause-names : goal.shown-requires-clause-names
 shown-requires-clause-names c =
+    let s = c.in-Show in
+    let known = known_types c.args.cat.now.objects c.args.cat.now.ends (length c.args.functors.now) c.args.stmt.now s.under s.ctx s.phi s.is c.requires.range in
     rw (c.as_slice.ensures, c.as_slice-in-Show.ensures)
-    (shown_form c.args.cat.now.objects c.args.cat.now.ends (length c.args.functors.now) c.args.stmt.now c.in-Show.under c.in-Show.ctx c.in-Show.phi c.in-Show.is c.requires.form).0
+    (all_declared (length c.args.functors.now) s.ctx.types known (shown_parts s.under s.ctx s.phi (sym c.is_shown.ensures ∙ c.if-not-is_shown.false)).0)
 
 pub shown-requires-clause-form : goal.shown-requires-clause-form
 shown-requires-clause-form c =
-    rw (c.as_slice-in-Show.ensures)
-    (shown_form c.args.cat.now.objects c.args.cat.now.ends (length c.args.functors.now) c.args.stmt.now c.in-Show.under c.in-Show.ctx c.in-Show.phi c.in-Show.is c.requires.form).1
+    let s = c.in-Show in
+    rw (c.as_slice-in-Show.ensures) (shown_parts s.under s.ctx s.phi (sym c.is_shown.ensures ∙ c.if-not-is_shown.false)).1
 
-pub returns-in_ok-push-in-Ok-clause-answer : goal.returns-in_ok-push-in-Ok-clause-answer
-returns-in_ok-push-in-Ok-clause-answer c =
-    rw c.in_ok-push-in-Ok.ensures.ok
-    (declares c.args.cat.now c.args.functors.now c.args.stmt.now c.in-Presheaf.functor c.in-Presheaf.raw c.in-Ok.functor c.in-Presheaf.is c.in-Ok.ensures.presheaf c.in-Ok.ensures.lawful c.in-Ok.ensures.functorial c.requires.functors)
+pub returns-in_ok-push-in-Presheaf-clause-answer : goal.returns-in_ok-push-in-Presheaf-clause-answer
+returns-in_ok-push-in-Presheaf-clause-answer c =
+    let p = c.in-Presheaf in
+    let checked = c.in_ok-functor-in-Presheaf in
+    rw c.in_ok-push-in-Presheaf.ensures.ok
+    (declares c.args.cat.now c.args.functors.now c.args.stmt.now p.functor p.raw checked.functor p.is checked.ensures.presheaf checked.ensures.lawful checked.ensures.faultless c.requires.functors)
 
 pub returns-in_ok-stages-in-Show-clause-answer : goal.returns-in_ok-stages-in-Show-clause-answer
 returns-in_ok-stages-in-Show-clause-answer c =
-    shows c.args.cat.now c.args.functors.now c.args.stmt.now c.in-Show.under c.in-Show.ctx c.in_ok-ctx_copy-in-Show.ctx_copy c.in-Show.phi c.in_ok-stages-in-Show.stages c.in-Show.is
-    c.in_ok-ctx_copy-in-Show.ensures (rw (c.as_slice.ensures, c.as_slice-in-Show.ensures) at c.in_ok-stages-in-Show.ensures) c.requires.functors
+    let s = c.in-Show in
+    shows c.args.cat.now c.args.functors.now c.args.stmt.now s.under s.ctx c.in_ok-ctx_copy-in-Show.ctx_copy s.phi c.in_ok-stages-in-Show.stages s.is
+    c.in_ok-ctx_copy-in-Show.ensures (rw (c.as_slice.ensures, c.as_slice-in-Show.ensures) at c.in_ok-stages-in-Show.ensures)
+    (sym c.is_shown.ensures ∙ c.if-not-is_shown.false) c.requires.functors

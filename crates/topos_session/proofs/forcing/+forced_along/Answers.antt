@@ -2,7 +2,7 @@ use Rattle.std.proofs.Common.{◌≡◌, rules, arith, ap, ◌∙◌, sym, Bool,
 use Rattle.std.specs.List.{list_all}
 use Rattle.std.proofs.lemmas.List.{take_all}
 use Rattle.topos_model.specs.declared.term.Term.{the_lemmas}
-use Rattle.topos_model.specs.Category.{Category, cod, into}
+use Rattle.topos_model.specs.categories.Category.{Category, cod, into}
 use Rattle.topos_session.specs.declared.variable.Variable.{Variable}
 use Rattle.topos_session.specs.Variables.{functors_inside, element_along, forced_along}
 use Rattle.topos_session.proofs.PropositionalFormulas.{sides, other_form}

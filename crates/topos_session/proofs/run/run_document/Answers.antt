@@ -2,8 +2,11 @@ use Rattle.std.proofs.Common.{sym, ap, subst, ◌∙◌}
 use Rattle.std.proofs.lemmas.Bool.{leb-true}
 use Rattle.topos_session.specs.Progress.{Progress}
 use Rattle.topos_session.specs.Steps.{IsStop}
-use Rattle.topos_session.proofs.RunSteps.{one_answered, all_answered, refused_next}
+use Rattle.topos_session.proofs.RunSteps.{none_answered, one_answered, all_answered, refused_next}
 use Rattle.topos_session.proofs.run.run_document.Goals as goal
+
+pub loop-session-init : goal.loop-session-init
+loop-session-init c = rw c.new-answers.ensures (none_answered c.args.doc c.in-Ok.session c.in-Ok.ensures.opened)
 
 pub loop-session-preserved : goal.loop-session-preserved
 loop-session-preserved c =

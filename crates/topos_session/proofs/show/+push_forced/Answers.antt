@@ -1,9 +1,9 @@
 use Rattle.std.proofs.Common.{◌≡◌, ◌-◌, ◌<◌, List, [], ◌∷◌, ◌++◌, length, take, drop, map, true, false, ap, sym, ◌∙◌, arith, append-nil, vec_len}
 use Rattle.std.proofs.lemmas.List.{get_or_default}
 use Rattle.topos_model.specs.declared.ty.Ty.{Ty, Base}
-use Rattle.topos_model.specs.Category.{Category}
+use Rattle.topos_model.specs.categories.Category.{Category}
 use Rattle.topos_model.specs.Laws.{size}
-use Rattle.topos_model.specs.Run.{tuple_of}
+use Rattle.topos_model.specs.statements.Answers.{tuple_of}
 use Rattle.topos_session.specs.declared.variable.Variable.{Variable}
 use Rattle.topos_session.specs.Variables.{none, assigned}
 use Rattle.topos_session.proofs.PushedTuples.{variables-more, functor_name, last_form, next_form, pushed_more, first_and_rest, name_parts, forced_last, forced_next, forced_here, is_variable, popped}

@@ -1,5 +1,5 @@
 use Rattle.std.proofs.Common.{◌≡◌, ◌++◌, length, map}
-use Rattle.topos_model.specs.Run.{tuple_of}
+use Rattle.topos_model.specs.statements.Answers.{tuple_of}
 use Rattle.topos_session.proofs.PushedTuples.{forced_below}
 use Rattle.topos_session.proofs.show.+push_forced.Given as goal
 

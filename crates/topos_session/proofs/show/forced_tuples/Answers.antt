@@ -1,6 +1,6 @@
 use Rattle.std.proofs.Common.{List, ◌++◌, map, ap, ◌∙◌}
-use Rattle.topos_model.specs.Forcing.{Assigned}
-use Rattle.topos_model.specs.Run.{tuple_of}
+use Rattle.topos_model.specs.formulas.Forcing.{Assigned}
+use Rattle.topos_model.specs.statements.Answers.{tuple_of}
 use Rattle.topos_session.specs.Variables.{forced_extensions}
 use Rattle.topos_session.proofs.PushedTuples.{first_form, forced_first}
 use Rattle.topos_session.proofs.show.forced_tuples.Goals as goal

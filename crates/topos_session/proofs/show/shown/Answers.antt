@@ -2,8 +2,8 @@ use Rattle.std.proofs.Common.{ℕ, List, ◌∷◌, [], ◌++◌, map, reverse, 
 use Rattle.std.specs.List.{range_with_len}
 use Rattle.std.proofs.lemmas.List.FromFn.{map-range_with_len_more}
 use Rattle.topos_model.specs.declared.answer.Tuple.{Tuple}
-use Rattle.topos_model.specs.Forcing.{shown}
-use Rattle.topos_model.specs.Run.{tuple_of}
+use Rattle.topos_model.specs.formulas.Forcing.{shown}
+use Rattle.topos_model.specs.statements.Answers.{tuple_of}
 use Rattle.topos_session.specs.Variables.{presheaf_world}
 use Rattle.topos_session.proofs.show.shown.Goals as goal
 

@@ -1,7 +1,7 @@
 use Rattle.std.proofs.Common.{◌≡◌, map, reverse}
 use Rattle.std.specs.List.{range_with_len}
-use Rattle.topos_model.specs.Forcing.{shown}
-use Rattle.topos_model.specs.Run.{tuple_of}
+use Rattle.topos_model.specs.formulas.Forcing.{shown}
+use Rattle.topos_model.specs.statements.Answers.{tuple_of}
 use Rattle.topos_session.specs.Variables.{presheaf_world}
 use Rattle.topos_session.proofs.show.shown.Given as goal
 

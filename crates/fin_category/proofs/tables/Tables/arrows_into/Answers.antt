@@ -1,6 +1,6 @@
-use Rattle.std.proofs.Common.{[], sym, ◌∙◌}
+use Rattle.std.proofs.Common.{[], length, sym, ap, ◌∙◌, arith}
 use Rattle.std.proofs.lemmas.Option.{get_or_from_slice_get}
-use Rattle.fin_category.proofs.Views.{into_each}
+use Rattle.fin_category.proofs.Views.{into_each, few_into}
 use Rattle.fin_category.proofs.Views.{AreOf, tables_of}
 use Rattle.fin_category.proofs.tables.Tables.arrows_into.Goals as goal
 
@@ -18,3 +18,9 @@ returns-clause-value c =
 
 pub returns-clause-each : goal.returns-clause-each
 returns-clause-each c = into_each c.args.self.now c.args.c c.as_slice.result.now (returns-clause-value c)
+
+pub returns-clause-few : goal.returns-clause-few
+returns-clause-few c =
+    let i = c.self.inside in
+    let t : AreOf c.args.self.now i.objects i.ends i.composites.items i.rows = tables_of i.objects i.ends i.composites.items i.rows c.args.self.now c.self.view_is c.self.invariant in
+    omega (arith, t.few_arrows, few_into c.args.self.now c.args.c, ap length (returns-clause-value c))

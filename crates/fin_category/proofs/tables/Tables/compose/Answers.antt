@@ -1,7 +1,7 @@
 use Rattle.std.proofs.Common.{◌≡◌, ◌+◌, ◌*◌, ◌<◌, length, get_or, sym, ap, subst, ◌∙◌, arith}
 use Rattle.std.proofs.lemmas.List.{get_or_read}
-use Rattle.topos_model.specs.Category.{dom, cod}
-use Rattle.fin_category.proofs.Squares.{place_within}
+use Rattle.topos_model.specs.categories.Category.{dom, cod}
+use Rattle.std.proofs.lemmas.Nat.{mul-add-lt}
 use Rattle.fin_category.proofs.Views.{AreOf, tables_of}
 use Rattle.fin_category.proofs.tables.Tables.compose.Goals as goal
 
@@ -10,17 +10,17 @@ index-requires c =
     let i = c.self.inside in
     let t : AreOf c.args.self.now i.objects i.ends i.composites.items i.rows = tables_of i.objects i.ends i.composites.items i.rows c.args.self.now c.self.view_is c.self.invariant in
     let n : c.len.result ≡ length c.args.self.now.ends = c.len.ensures ∙ ap length t.ends_are in
-    let p = place_within (length c.args.self.now.ends) i.composites.items c.args.g c.args.f t.places c.requires.second c.requires.first in
-    rw n (omega (arith, i.composites.ok.0))
+    let p = mul-add-lt c.args.g (length c.args.self.now.ends) c.args.f (length c.args.self.now.ends) c.requires.second c.requires.first in
+    rw n (omega (arith, t.places, i.composites.ok.0))
 
 pub returns-clause-value : goal.returns-clause-value
 returns-clause-value c =
     let i = c.self.inside in
     let t : AreOf c.args.self.now i.objects i.ends i.composites.items i.rows = tables_of i.objects i.ends i.composites.items i.rows c.args.self.now c.self.view_is c.self.invariant in
     let n : c.len.result ≡ length c.args.self.now.ends = c.len.ensures ∙ ap length t.ends_are in
-    let p = place_within (length c.args.self.now.ends) i.composites.items c.args.g c.args.f t.places c.requires.second c.requires.first in
+    let p = mul-add-lt c.args.g (length c.args.self.now.ends) c.args.f (length c.args.self.now.ends) c.requires.second c.requires.first in
     let read : c.index.result.now ≡ get_or i.composites.items (c.args.g * length c.args.self.now.ends + c.args.f) c.index.result.now = rw n at c.index.ensures in
-    get_or_read i.composites.items (c.args.g * length c.args.self.now.ends + c.args.f) c.index.result.now p read 0
+    get_or_read i.composites.items (c.args.g * length c.args.self.now.ends + c.args.f) c.index.result.now (omega (arith, t.places)) read 0
     ∙ t.composites c.args.g c.args.f c.requires.second c.requires.first c.requires.meet
 
 pub returns-clause-arrow : goal.returns-clause-arrow

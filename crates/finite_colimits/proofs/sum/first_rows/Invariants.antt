@@ -1,0 +1,8 @@
+use Rattle.std.proofs.Common.{◌≡◌, ◌+◌, ◌++◌, ◌<◌, ◌^◌, ℕ, map, take, replicate, [], length, get_or}
+use Rattle.std.specs.List.{range_with_len}
+use Rattle.topos_model.specs.Laws.{size}
+use Rattle.finite_colimits.specs.Sums.{sum_row}
+use Rattle.finite_colimits.proofs.sum.first_rows.Given as goal
+
+abbrev pub invariant-loop-c : goal.invariant-loop-c
+invariant-loop-c l = l.rows ≡ map (λ c. range_with_len 0 (size l.x c)) (range_with_len 0 l.c)

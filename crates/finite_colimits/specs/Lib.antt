@@ -1,0 +1,4 @@
+pub mod Classes
+pub mod Sums
+pub mod Labels
+pub mod Laws

@@ -1,0 +1,15 @@
+pub mod Offsets
+pub mod ListedImages
+pub mod Composites
+pub mod ListedComponents
+pub mod FailingSquares
+pub mod CheckedMaps
+pub mod MapLaws
+pub mod AllMaps
+pub mod FaultlessMaps
+pub mod Choices
+pub mod Triangles
+pub mod Lifts
+pub mod Descents
+pub mod RigidNumbers
+pub mod CellSums

@@ -1,0 +1,18 @@
+//! Natural maps between presheaves of finite sets: the check of a listed one, values, composites and laws; and what a construction of presheaves gives.
+#![tactic(auto)]
+
+mod components;
+mod fault;
+mod images;
+mod laws;
+mod made;
+mod map;
+mod naturality;
+mod places;
+mod room;
+
+pub use fault::MapFault;
+pub use laws::map_laws;
+pub use made::{Made1, Made2};
+pub use map::NatMap;
+pub use room::{MAX_ROOM, lengths, sizes_within};

@@ -1,5 +1,0 @@
-use Rattle.presheaf_core.proofs.WholeSteps.{entered_below}
-use Rattle.presheaf_core.proofs.whole.are_entered_once.Goals as goal
-
-pub are_distinct-requires : goal.are_distinct-requires
-are_distinct-requires c = rw (c.deref.ensures.value, c.in_ok-elements.ensures) (entered_below c.args.entries.now c.args.size c.requires)

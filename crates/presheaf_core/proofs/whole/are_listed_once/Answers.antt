@@ -1,5 +1,0 @@
-use Rattle.presheaf_core.proofs.WholeSteps.{listed_below}
-use Rattle.presheaf_core.proofs.whole.are_listed_once.Goals as goal
-
-pub are_distinct-requires : goal.are_distinct-requires
-are_distinct-requires c = rw (c.deref.ensures.value, c.in_ok-arrows.ensures) (listed_below c.args.along.now c.args.number c.requires)

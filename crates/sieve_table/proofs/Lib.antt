@@ -1,0 +1,3 @@
+pub mod SieveMembers
+pub mod SieveComposites
+pub mod AddedRows

@@ -1,0 +1,3 @@
+pub mod Composites
+pub mod Sieves
+pub mod Laws

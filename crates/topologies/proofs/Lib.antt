@@ -1,0 +1,15 @@
+pub mod LeastCovers
+pub mod Closure
+pub mod TwoPasses
+pub mod CandidateTests
+pub mod DenseTopology
+pub mod FirstFaults
+pub mod SomeCovers
+pub mod Trivial
+pub mod KeptCovers
+pub mod ListedRows
+pub mod FirstRows
+pub mod ListedCandidates
+pub mod TwiceRows
+pub mod ListedAnswers
+pub mod FamilyTests

@@ -1,0 +1,3 @@
+pub mod CertificateNodes
+pub mod Certificates
+pub mod FirstCertificate

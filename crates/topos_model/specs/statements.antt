@@ -1,0 +1,12 @@
+pub mod Form
+pub mod Run
+pub mod Needs
+pub mod Cells
+pub mod StatementFaults
+pub mod Declarations
+pub mod Answers
+pub mod Refusals
+pub mod Check
+pub mod RunLaws
+pub mod Built
+pub mod StagedRun

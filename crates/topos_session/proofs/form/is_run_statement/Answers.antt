@@ -1,6 +1,0 @@
-use Rattle.std.proofs.Common.{sym}
-use Rattle.topos_session.proofs.StatementForms.{statement-other}
-use Rattle.topos_session.proofs.form.is_run_statement.Goals as goal
-
-pub returns-in_default : goal.returns-in_default
-returns-in_default c = sym (statement-other c.args.objects c.args.ends.now c.args.declared c.args.stmt.now c.in_default.not-Presheaf c.in_default.not-Show)

@@ -1,0 +1,10 @@
+pub mod LongestTokens
+pub mod WorkedTokens
+pub mod WorkedDerivations
+pub mod WorkedDocuments
+pub mod WorkedPlaces
+pub mod WorkedNames
+pub mod WorkedLaterStatements
+pub mod WorkedLimits
+pub mod DerivationParts
+pub mod DerivationFronts
