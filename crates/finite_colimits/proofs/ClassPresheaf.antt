@@ -1,5 +1,5 @@
 -- The presheaf of the classes under the pairs (m(x), n(x)) is the coequalizer of m and n.
-use Rattle.std.proofs.Common.{◌≡◌, ℕ, ◌<◌, ◌≤◌, length, get_or, refl, sym, ap, subst, ◌∙◌, arith, ◌⊎◌, inl, inr}
+use Rattle.std.proofs.Common.{◌≡◌, ℕ, ◌<◌, ◌≤◌, length, sym, ap, subst, ◌∙◌, arith, inl, inr}
 use Rattle.std.proofs.lemmas.Bool.{cases_order}
 use Rattle.topos_model.specs.categories.Category.{Category, dom, compose}
 use Rattle.topos_model.specs.types.Types.{Presheaf}
@@ -8,7 +8,7 @@ use Rattle.topos_model.specs.presheaves.Maps.{Components, component, apply, IsNa
 use Rattle.topos_model.specs.presheaves.Colimits.{IsLeastPlace, LeastPlacesRise, IsCoequalizer}
 use Rattle.topos_model.proofs.MapEquations.{composites_natural}
 use Rattle.natural_maps.proofs.Triangles.{codomain_object, value_after, after_is}
-use Rattle.natural_maps.proofs.Descents.{IsFrom, IsValueOn, descend}
+use Rattle.natural_maps.proofs.Descents.{descend}
 use Rattle.finite_colimits.specs.Classes.{Joins, IsClasses, IsOfClasses}
 
 module _ (k : Category) (lk : IsCategory k) (X Y : Presheaf) (m n q r : Components) (lx : IsFunctor k X) (ly : IsFunctor k Y) (nm : IsNatural k X Y m) (nn : IsNatural k X Y n)

@@ -1,11 +1,10 @@
 -- The presheaf of the classes, arrow by arrow.
-use Rattle.std.proofs.Common.{◌≡◌, ℕ, ◌+◌, ◌<◌, ◌≤◌, List, [], ◌∷◌, ◌++◌, map, length, get_or, refl, sym, ap, subst, ◌∙◌, arith, ◌⊎◌, inl, inr}
-use Rattle.std.specs.List.{range_with_len}
+use Rattle.std.proofs.Common.{◌≡◌, ℕ, ◌+◌, ◌<◌, List, [], ◌∷◌, ◌++◌, map, length, get_or, refl, sym, ap, subst, ◌∙◌, arith, inl, inr}
 use Rattle.std.proofs.lemmas.List.{length-map, get_or-map, length_push, get_or_append_left, get_or_push}
 use Rattle.std.proofs.lemmas.List.FromFn.{length-map-range_with_len, get_or-map-range_with_len}
 use Rattle.topos_model.specs.categories.Category.{Category, dom, cod}
 use Rattle.topos_model.specs.types.Types.{Presheaf}
-use Rattle.topos_model.specs.Laws.{IsInto, IsCategory, act, size, IsFunctor}
+use Rattle.topos_model.specs.Laws.{IsCategory, act, IsFunctor}
 use Rattle.topos_model.specs.presheaves.Maps.{Components, component, apply, IsNatural}
 use Rattle.topos_model.specs.presheaves.Colimits.{IsCoequalizer}
 use Rattle.topos_model.specs.statements.Cells.{presheaf_cells}

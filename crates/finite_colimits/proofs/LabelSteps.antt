@@ -3,8 +3,8 @@ use Rattle.std.proofs.Common.{◌≡◌, ℕ, zero, suc, ◌+◌, ◌<◌, ◌�
 use Rattle.std.specs.List.{range_with_len}
 use Rattle.std.proofs.lemmas.Bool.{cases_eq, cases_lt}
 use Rattle.std.proofs.lemmas.List.{get_or-set_same, get_or-set_other, length-set, length_push, get_or_append_left, get_or_push}
-use Rattle.std.proofs.lemmas.List.FromFn.{get_or-range_with_len, length-range_with_len}
-use Rattle.finite_colimits.specs.Classes.{Joins, JoinsFirst, IsClasses}
+use Rattle.std.proofs.lemmas.List.FromFn.{get_or-range_with_len}
+use Rattle.finite_colimits.specs.Classes.{IsClasses}
 use Rattle.finite_colimits.specs.Labels.{Follows, AreLow, AreShorter, IsRoot, AreJoined, HaveClasses, AreNumbered}
 
 module _ (l : List ℕ) (y w : ℕ) (h : y < length l) where

@@ -1,17 +1,16 @@
 -- The orders leave one coequalizer, one pushout, one coproduct and one initial presheaf.
-use Rattle.std.proofs.Common.{◌≡◌, ℕ, ◌+◌, ◌<◌, ◌≤◌, List, ◌++◌, length, get_or, refl, sym, ap, subst, ◌∙◌, arith, ◌⊎◌, inl, inr}
+use Rattle.std.proofs.Common.{◌≡◌, ℕ, ◌+◌, ◌<◌, ◌≤◌, List, ◌++◌, length, get_or, sym, ap, subst, ◌∙◌, arith, inl, inr}
 use Rattle.std.proofs.lemmas.Bool.{cases_lt, cases_order}
 use Rattle.std.proofs.lemmas.List.{length-append, get_or_append_left}
-use Rattle.topos_model.specs.categories.Category.{Category, dom}
+use Rattle.topos_model.specs.categories.Category.{Category}
 use Rattle.topos_model.specs.types.Types.{Presheaf}
-use Rattle.topos_model.specs.Laws.{IsInto, IsCategory, act, size, IsFunctor}
-use Rattle.topos_model.specs.presheaves.Maps.{Components, component, apply, IsNatural, after, ExactlyOne}
+use Rattle.topos_model.specs.Laws.{IsCategory, size, IsFunctor}
+use Rattle.topos_model.specs.presheaves.Maps.{Components, component, apply, IsNatural, after}
 use Rattle.topos_model.specs.presheaves.Colimits.{IsLeastPlace, LeastPlacesRise, IsInitial, IsCoproduct, IsCoequalizer, IsPushout}
 use Rattle.topos_model.proofs.MapEquations.{maps_same, composites_natural}
-use Rattle.natural_maps.proofs.Triangles.{values_agree, value_after, after_associates, after_is, IsIdentity, identity}
+use Rattle.natural_maps.proofs.Triangles.{values_agree, after_associates, after_is, identity}
 use Rattle.natural_maps.proofs.RigidNumbers.{IsRisingMap, IsSameNumbering, rising_both, presheaves_same}
-use Rattle.finite_colimits.specs.Sums.{IsSum, IsGivenBy, IsEmpty}
-use Rattle.finite_colimits.proofs.SumPresheaf.{parted, later_entry, sum_functor, coproduct_by_sum, IsStandardSum, sum_exists, empty_functor, empty_exists}
+use Rattle.finite_colimits.proofs.SumPresheaf.{parted, later_entry, coproduct_by_sum, IsStandardSum, sum_exists, empty_functor, empty_exists}
 
 -- a map of numberings that takes the numbers of one list to those of another, and one back, rise with the least places
 pub record IsCarriedOver (n : ℕ) (s t : List ℕ) (u : ℕ → ℕ) : Type 0 where

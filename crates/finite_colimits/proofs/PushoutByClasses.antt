@@ -1,10 +1,10 @@
 -- The coequalizer of two maps into a coproduct is a pushout.
-use Rattle.std.proofs.Common.{◌≡◌, ℕ, ◌+◌, ◌<◌, ◌≤◌, List, ◌++◌, length, get_or, refl, sym, ap, subst, ◌∙◌, arith, ◌⊎◌, inl, inr}
+use Rattle.std.proofs.Common.{◌≡◌, ℕ, ◌+◌, ◌<◌, List, ◌++◌, length, sym, ap, subst, ◌∙◌, arith, inl, inr}
 use Rattle.std.proofs.lemmas.List.{ext_get_or, length-append, get_or_append_left}
-use Rattle.topos_model.specs.categories.Category.{Category, dom}
+use Rattle.topos_model.specs.categories.Category.{Category}
 use Rattle.topos_model.specs.types.Types.{Presheaf}
-use Rattle.topos_model.specs.Laws.{IsInto, IsCategory, act, size, IsFunctor}
-use Rattle.topos_model.specs.presheaves.Maps.{Components, component, apply, IsNatural, after, ExactlyOne}
+use Rattle.topos_model.specs.Laws.{IsCategory, size, IsFunctor}
+use Rattle.topos_model.specs.presheaves.Maps.{Components, component, apply, IsNatural, after}
 use Rattle.topos_model.specs.presheaves.Colimits.{LeastPlacesRise, IsCoproduct, IsCoequalizer, IsPushout}
 use Rattle.topos_model.proofs.MapEquations.{composites_natural}
 use Rattle.natural_maps.proofs.Triangles.{value_after, after_associates}

@@ -4,12 +4,12 @@ use Rattle.std.proofs.lemmas.Bool.{cases_lt}
 use Rattle.topos_model.specs.categories.Category.{Category, dom, cod, compose}
 use Rattle.topos_model.specs.types.Types.{Presheaf}
 use Rattle.topos_model.specs.Laws.{IsInto, IsCategory, act, size, IsFunctor}
-use Rattle.topos_model.specs.presheaves.Maps.{Components, component, apply, IsNatural, after, ExactlyOne}
+use Rattle.topos_model.specs.presheaves.Maps.{Components, apply, IsNatural}
 use Rattle.topos_model.specs.presheaves.Colimits.{IsInitial, IsCoproduct}
 use Rattle.topos_model.proofs.MapEquations.{maps_same}
-use Rattle.natural_maps.proofs.Choices.{AreChosen, choose, IsChosen, list_of}
+use Rattle.natural_maps.proofs.Choices.{AreChosen, choose, list_of}
 use Rattle.natural_maps.proofs.Triangles.{codomain_object}
-use Rattle.natural_maps.proofs.Descents.{IsFrom, IsValueOn, descend}
+use Rattle.natural_maps.proofs.Descents.{descend}
 use Rattle.finite_colimits.specs.Sums.{IsSum, IsGivenBy, IsEmpty}
 
 -- t is one of the first a numbers, or a and one of the next b

@@ -1,18 +1,18 @@
 -- The sum of two presheaves, arrow by arrow.
-use Rattle.std.proofs.Common.{◌≡◌, ℕ, zero, suc, ◌+◌, ◌*◌, ◌<◌, ◌≤◌, ◌^◌, List, [], ◌∷◌, ◌++◌, map, length, get_or, replicate, refl, sym, ap, subst, ◌∙◌, arith}
+use Rattle.std.proofs.Common.{◌≡◌, ℕ, zero, suc, ◌+◌, ◌<◌, ◌≤◌, ◌^◌, List, [], ◌∷◌, ◌++◌, map, length, get_or, replicate, refl, sym, ap, subst, ◌∙◌, arith}
 use Rattle.std.specs.List.{range_with_len}
 use Rattle.std.proofs.lemmas.List.{length-map, length-append, get_or-map, get_or_append_left}
 use Rattle.std.proofs.lemmas.List.FromFn.{length-map-range_with_len, get_or-map-range_with_len, length-range_with_len, get_or-range_with_len}
-use Rattle.topos_model.specs.categories.Category.{Category, dom, cod}
+use Rattle.topos_model.specs.categories.Category.{Category, dom}
 use Rattle.topos_model.specs.types.Types.{Presheaf}
-use Rattle.topos_model.specs.Laws.{IsInto, IsCategory, act, size, IsFunctor}
+use Rattle.topos_model.specs.Laws.{IsCategory, size, IsFunctor}
 use Rattle.topos_model.specs.presheaves.Maps.{Components, component, apply, IsNatural}
 use Rattle.topos_model.specs.presheaves.Colimits.{IsInitial, IsCoproduct}
 use Rattle.topos_model.specs.statements.Cells.{presheaf_cells}
 use Rattle.natural_maps.specs.Room.{sized_cells, IsOverRoom}
 use Rattle.natural_maps.proofs.CellSums.{cells_by_sizes, size_within}
-use Rattle.finite_colimits.specs.Sums.{IsSum, IsGivenBy, IsEmpty, sum_sizes, sum_row, sum_presheaf, first_inclusion, second_inclusion}
-use Rattle.finite_colimits.proofs.SumPresheaf.{later_entry, sum_functor, initial_by_empty, coproduct_by_sum, IsStandardSum}
+use Rattle.finite_colimits.specs.Sums.{IsSum, IsGivenBy, sum_sizes, sum_row, sum_presheaf, first_inclusion, second_inclusion}
+use Rattle.finite_colimits.proofs.SumPresheaf.{later_entry, initial_by_empty, coproduct_by_sum, IsStandardSum}
 use Rattle.finite_colimits.proofs.OneColimit.{coproduct_is_sum}
 
 module _ (k : Category) (lk : IsCategory k) (X Y : Presheaf) (lx : IsFunctor k X) (ly : IsFunctor k Y) where

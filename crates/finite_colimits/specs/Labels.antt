@@ -1,6 +1,6 @@
 -- Labels of the numbers below a count: each number has a label, at most itself, and the labels lead to the least number of its class.
 use Rattle.std.specs.Prelude.{◌≡◌, ℕ, ◌<◌, ◌≤◌, List, length, get_or}
-use Rattle.finite_colimits.specs.Classes.{Joins, JoinsFirst}
+use Rattle.finite_colimits.specs.Classes.{JoinsFirst}
 
 -- v takes each number and its label to one value
 abbrev pub Follows : List ℕ → (ℕ → ℕ) → Type 0

@@ -1,10 +1,10 @@
 -- A presheaf that is numbered by pairs is one, and the two parts are natural.
-use Rattle.std.proofs.Common.{◌≡◌, ℕ, ◌<◌, length, get_or, refl, sym, ap, subst, ◌∙◌, arith, ◌⊎◌, inl, inr}
+use Rattle.std.proofs.Common.{◌≡◌, ℕ, ◌<◌, sym, ap, subst, ◌∙◌, arith, ◌⊎◌, inl, inr}
 use Rattle.std.proofs.lemmas.Bool.{cases_order}
 use Rattle.topos_model.specs.categories.Category.{Category, dom, compose}
 use Rattle.topos_model.specs.types.Types.{Presheaf}
-use Rattle.topos_model.specs.Laws.{IsInto, IsCategory, act, size, IsFunctor}
-use Rattle.topos_model.specs.presheaves.Maps.{Components, component, apply, IsNatural}
+use Rattle.topos_model.specs.Laws.{IsCategory, act, size, IsFunctor}
+use Rattle.topos_model.specs.presheaves.Maps.{Components, apply, IsNatural}
 use Rattle.topos_model.specs.presheaves.Limits.{PairsRise}
 use Rattle.natural_maps.proofs.Triangles.{codomain_object}
 use Rattle.natural_maps.proofs.Lifts.{AreApart}

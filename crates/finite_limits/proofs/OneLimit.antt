@@ -1,10 +1,10 @@
 -- The orders leave one product, one pullback, one equalizer and one image.
-use Rattle.std.proofs.Common.{◌≡◌, ℕ, ◌<◌, ◌≤◌, length, get_or, refl, sym, ap, subst, ◌∙◌, arith, ◌⊎◌, inl, inr}
-use Rattle.std.proofs.lemmas.Bool.{cases_lt, cases_order}
-use Rattle.topos_model.specs.categories.Category.{Category, dom}
+use Rattle.std.proofs.Common.{◌≡◌, ℕ, ◌<◌, sym, ap, subst, ◌∙◌, arith, ◌⊎◌, inl, inr}
+use Rattle.std.proofs.lemmas.Bool.{cases_order}
+use Rattle.topos_model.specs.categories.Category.{Category}
 use Rattle.topos_model.specs.types.Types.{Presheaf}
-use Rattle.topos_model.specs.Laws.{IsInto, IsCategory, act, size, IsFunctor}
-use Rattle.topos_model.specs.presheaves.Maps.{Components, component, apply, IsNatural, after, IsInjective, ExactlyOne}
+use Rattle.topos_model.specs.Laws.{IsCategory, size, IsFunctor}
+use Rattle.topos_model.specs.presheaves.Maps.{Components, apply, IsNatural, after}
 use Rattle.topos_model.specs.presheaves.Limits.{ElementsRise, PairsRise, IsProduct, IsPullback, IsEqualizer, IsImage}
 use Rattle.topos_model.proofs.MapEquations.{maps_same}
 use Rattle.natural_maps.proofs.Triangles.{values_agree}

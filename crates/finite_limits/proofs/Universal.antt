@@ -1,14 +1,14 @@
 -- Presheaves numbered by all pairs, by the pairs that two maps take to one element, by the elements at which two maps agree and by the values of a map
 -- are the product, the pullback, the equalizer and the image.
-use Rattle.std.proofs.Common.{◌≡◌, ℕ, ◌<◌, length, get_or, refl, sym, ap, subst, ◌∙◌, arith, ◌⊎◌, inl, inr}
-use Rattle.topos_model.specs.categories.Category.{Category, dom}
+use Rattle.std.proofs.Common.{◌≡◌, ℕ, ◌<◌, sym, ap, ◌∙◌, inl, inr}
+use Rattle.topos_model.specs.categories.Category.{Category}
 use Rattle.topos_model.specs.types.Types.{Presheaf}
-use Rattle.topos_model.specs.Laws.{IsInto, IsCategory, act, size, IsFunctor}
-use Rattle.topos_model.specs.presheaves.Maps.{Components, component, apply, IsNatural, after, IsInjective, ExactlyOne}
+use Rattle.topos_model.specs.Laws.{IsCategory, size, IsFunctor}
+use Rattle.topos_model.specs.presheaves.Maps.{Components, apply, IsNatural, after, ExactlyOne}
 use Rattle.topos_model.specs.presheaves.Limits.{ElementsRise, PairsRise, IsProduct, IsPullback, IsEqualizer, IsImage}
-use Rattle.topos_model.proofs.MapEquations.{composites_natural, maps_same}
-use Rattle.natural_maps.proofs.Triangles.{codomain_object, value_after, values_agree, after_is}
-use Rattle.natural_maps.proofs.Lifts.{AreApart, HasValues, lift}
+use Rattle.topos_model.proofs.MapEquations.{composites_natural}
+use Rattle.natural_maps.proofs.Triangles.{value_after, values_agree, after_is}
+use Rattle.natural_maps.proofs.Lifts.{HasValues, lift}
 use Rattle.finite_limits.specs.Carried.{IsCarried}
 use Rattle.finite_limits.proofs.Carried.{carried_apart, carried_functor, first_natural, second_natural}
 

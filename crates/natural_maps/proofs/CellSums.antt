@@ -1,5 +1,5 @@
 -- The cells of a presheaf by its sizes, object by object.
-use Rattle.std.proofs.Common.{◌≡◌, ℕ, zero, suc, ◌+◌, ◌*◌, ◌/◌, div-lt_iff_lt-mul, ◌<◌, ◌≤◌, List, [], ◌∷◌, map, length, get_or, sum, Option, Some, None, subst, refl, sym, ap, ◌∙◌, arith, ◌⊎◌, inl, inr}
+use Rattle.std.proofs.Common.{◌≡◌, ℕ, zero, suc, ◌+◌, ◌*◌, ◌/◌, div-lt_iff_lt-mul, ◌<◌, ◌≤◌, List, [], ◌∷◌, map, length, get_or, sum, Option, Some, None, subst, refl, ap, ◌∙◌, arith, inl, inr}
 use Rattle.std.specs.List.{range_with_len}
 use Rattle.std.proofs.lemmas.Bool.{cases_lt}
 use Rattle.std.proofs.lemmas.List.Sums.{sum_by-append}

@@ -1,9 +1,9 @@
 -- Natural maps into a presheaf whose elements are told apart by two maps: a pair of maps whose values are all hit factors exactly once.
-use Rattle.std.proofs.Common.{◌≡◌, ℕ, ◌<◌, length, get_or, refl, sym, ap, subst, ◌∙◌, arith}
+use Rattle.std.proofs.Common.{◌≡◌, ℕ, ◌<◌, sym, ap, ◌∙◌}
 use Rattle.topos_model.specs.categories.Category.{Category, dom}
 use Rattle.topos_model.specs.types.Types.{Presheaf}
-use Rattle.topos_model.specs.Laws.{IsInto, IsCategory, act, size, IsFunctor}
-use Rattle.topos_model.specs.presheaves.Maps.{Components, component, apply, IsNatural, after, ExactlyOne}
+use Rattle.topos_model.specs.Laws.{IsCategory, act, size, IsFunctor}
+use Rattle.topos_model.specs.presheaves.Maps.{Components, apply, IsNatural, after, ExactlyOne}
 use Rattle.topos_model.proofs.MapEquations.{maps_same}
 use Rattle.natural_maps.proofs.Choices.{AreChosen, choose}
 use Rattle.natural_maps.proofs.Triangles.{codomain_object, values_agree, after_is}

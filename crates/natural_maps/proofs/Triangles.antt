@@ -1,9 +1,9 @@
 -- Composites of natural maps by their values.
-use Rattle.std.proofs.Common.{◌≡◌, ℕ, ◌<◌, List, length, get_or, refl, sym, ap, subst, ◌∙◌, arith}
+use Rattle.std.proofs.Common.{◌≡◌, ℕ, ◌<◌, refl, sym, ap, subst, ◌∙◌}
 use Rattle.topos_model.specs.categories.Category.{Category, dom}
 use Rattle.topos_model.specs.types.Types.{Presheaf}
 use Rattle.topos_model.specs.Laws.{IsInto, IsCategory, act, size, IsFunctor}
-use Rattle.topos_model.specs.presheaves.Maps.{Components, component, apply, IsNatural, after}
+use Rattle.topos_model.specs.presheaves.Maps.{Components, apply, IsNatural, after}
 use Rattle.topos_model.proofs.MapEquations.{apply-after, maps_same, composites_natural}
 use Rattle.natural_maps.proofs.Choices.{AreChosen, choose}
 

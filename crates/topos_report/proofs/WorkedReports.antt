@@ -1,22 +1,21 @@
 -- Worked examples, by computation: the lines of each answer, of refusals and of ends.
-use Rattle.std.specs.Prelude.{◌≡◌, ℕ, true, false, List, [], ◌∷◌, Some, None, codes, refl}
+use Rattle.std.specs.Prelude.{◌≡◌, true, false, List, [], ◌∷◌, Some, None, codes, refl}
 use Rattle.std.specs.Fmt.{digits}
 use denote.Hole.Carrier
-use Rattle.topos_model.specs.declared.ty.Ty.{Ty, Base, One, Omega, Two, Pow, Fun}
+use Rattle.topos_model.specs.declared.ty.Ty.{Base, One, Omega, Two, Pow, Fun}
 use Rattle.topos_model.specs.declared.ty.Ty.TheBlock.{hidden-the_row-Ty-0}
-use Rattle.topos_model.specs.declared.term.Term.{Term, Var, Eq, Not, Or, Truth, Exists}
+use Rattle.topos_model.specs.declared.term.Term.{Term, Var, Eq, Not, Truth, Exists}
 use Rattle.topos_model.specs.declared.term.Term.TheBlock.{hidden-the_row-Term-0}
-use Rattle.topos_model.specs.declared.value.Val.{Val, out-Val, El, Star}
+use Rattle.topos_model.specs.declared.value.Val.{out-Val, El}
 use Rattle.topos_model.specs.declared.value.Val.TheBlock.{hidden-the_row-Val-0, hidden-the_row-Entry-1, hidden-the_row-Assign-2, shown-the_row-Val-0, shown-the_row-Entry-1, shown-the_row-Assign-2}
 use Rattle.topos_model.specs.declared.answer.WhyNode.{WhyNode, out-WhyNode, roll-WhyNode}
 use Rattle.topos_model.specs.declared.answer.WhyNode.TheBlock.{hidden-the_row-WhyNode-0, shown-the_row-WhyNode-0}
-use Rattle.topos_model.specs.declared.answer.Answer.{Answer}
-use Rattle.topos_model.specs.declared.answer.Answer.TheVariants.{Quiet, Built, Shown, Classified, Verdict, Sheaf, NotSheaf, Maps, Why, Derived, Local, NotLocal, Kan}
+use Rattle.topos_model.specs.declared.answer.Answer.TheVariants.{Built, Classified, Verdict, NotSheaf, Maps, Why, Derived, Local, NotLocal, Kan}
 use Rattle.topos_model.specs.declared.answer.End.TheVariants.{Whole, Checked, Refused, Budget}
 use Rattle.topos_model.specs.declared.answer.MapShape.{MapShape}
 use Rattle.topos_model.specs.declared.answer.Tuple.{Tuple}
 use Rattle.topos_model.specs.declared.fault.Kind.TheVariants as kind
-use Rattle.topos_model.specs.declared.fault.Fault.TheVariants.{NotText, BadToken, Syntax, TooMany, NameTwice, NameUnknown, CompositeMissing, CompositeEnds, NotAssociative, NotStable, NotTransitive, RestrictionMissing, NotTotal, MapNotTotal, NotNatural, NoElement, NoTuple, Expected, NotASheaf, NotParallel, BadStep, NotSent, FunctorEnds, FunctorLaw}
+use Rattle.topos_model.specs.declared.fault.Fault.TheVariants.{Syntax, TooMany, NameTwice, CompositeMissing, NotAssociative, NotStable, NotTotal, NotNatural, NoElement, NoTuple, Expected, NotASheaf, NotParallel, BadStep, NotSent, FunctorLaw}
 use Rattle.topos_model.specs.declared.stmt.Stmt.{Stmt}
 use Rattle.topos_model.specs.declared.stmt.Stmt.TheVariants as statement
 use Rattle.topos_model.specs.declared.doc.Doc.{Doc}

@@ -1,10 +1,10 @@
 -- What a report needs of statements: their words, and the names of what they make and speak of.
-use Rattle.std.specs.Prelude.{ℕ, ◌-◌, List, [], ◌∷◌, map, get_or, codes, Option, Some, None}
+use Rattle.std.specs.Prelude.{ℕ, ◌-◌, List, [], ◌∷◌, get_or, codes, Option, Some}
 use Rattle.std.specs.List.{slice_get}
 use Rattle.topos_model.specs.declared.doc.Doc.{Doc}
 use Rattle.topos_model.specs.declared.stmt.Stmt.{Stmt}
 use Rattle.topos_model.specs.declared.stmt.Stmt.TheVariants.{Presheaf, Map, Product, Coproduct, Equalizer, Coequalizer, Pullback, Pushout, Image, Empty, Sheafify, Build, Sub, Local, Category, CatFunctor, Along, PresheafOf, Lan, Ran}
-use Rattle.topos_report.specs.Names.{Naming, naming, second_naming, nameless, functor_name, map_name, on_functor}
+use Rattle.topos_report.specs.Names.{Naming, naming, second_naming, nameless, functor_name, on_functor}
 
 -- the first word of a statement that makes a functor
 unfoldable pub word_of : Stmt → List ℕ

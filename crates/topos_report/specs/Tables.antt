@@ -7,7 +7,7 @@ use Rattle.topos_model.specs.declared.answer.Shape.{Shape}
 use Rattle.topos_model.specs.declared.answer.MapShape.{MapShape}
 use Rattle.topos_model.specs.declared.doc.Doc.{Doc}
 use Rattle.topos_report.specs.Lists.{comma_separated}
-use Rattle.topos_report.specs.Names.{Naming, object_in, arrow_in, place_text, object_name}
+use Rattle.topos_report.specs.Names.{Naming, object_in, place_text, object_name}
 use Rattle.topos_report.specs.Values.{value_text}
 
 -- behind a space the entries with commas between them, and nothing where there are none

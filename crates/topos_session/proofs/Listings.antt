@@ -1,13 +1,11 @@
 -- The tests of a listed presheaf, one after another.
-use Rattle.std.proofs.Common.{◌≡◌, ℕ, ◌+◌, ◌<◌, ◌≤◌, Bool, true, false, ◌&&◌, List, [], ◌∷◌, length, get_or, map, eqb, ltb, leb, refl, sym, ◌∙◌}
-use Rattle.std.specs.List.{list_all, range_with_len}
+use Rattle.std.proofs.Common.{◌≡◌, ℕ, ◌<◌, ◌≤◌, Bool, true, false, ◌&&◌, List, [], ◌∷◌, length, get_or, map, eqb, ltb, leb, refl, sym, ◌∙◌}
+use Rattle.std.specs.List.{list_all}
 use Rattle.std.proofs.lemmas.Bool.{and_parts, and_left, and_right, le-leb, lt-ltb}
 use Rattle.std.proofs.lemmas.List.Folds.{list_all-map}
 use Rattle.topos_model.specs.declared.raw.RawAlong.{RawAlong}
-use Rattle.topos_model.specs.declared.raw.RawCat.{RawCat}
 use Rattle.topos_model.specs.declared.raw.RawFunctor.{RawFunctor}
-use Rattle.fin_category.proofs.AllEnds.{length-all_ends}
-use Rattle.topos_model.specs.statements.Form.{are_distinct, along_fits, is_presheaf_listing, is_listed_composite, is_category_listing, max_objects, max_arrows, max_elements}
+use Rattle.topos_model.specs.statements.Form.{are_distinct, along_fits, is_presheaf_listing, max_elements}
 
 -- a test that follows from another, for all members
 all_weaker : {A : Type 0} (p q : A → Bool) (xs : List A) → ((x : A) → p x ≡ true → q x ≡ true) → list_all p xs ≡ true → list_all q xs ≡ true

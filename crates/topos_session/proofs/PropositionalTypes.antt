@@ -1,10 +1,9 @@
 -- A propositional formula over functors is a formula, and applies no map.
-use Rattle.std.proofs.Common.{◌≡◌, ℕ, zero, suc, true, false, Bool, ◌&&◌, List, [], ◌∷◌, ◌++◌, map, get_or, slice_get, Option, Some, None, Ok, refl, sym, ap, ◌∙◌}
-use Rattle.std.specs.Prelude.{eqb}
+use Rattle.std.proofs.Common.{◌≡◌, ℕ, zero, suc, true, List, [], ◌∷◌, ◌++◌, map, get_or, slice_get, Option, Some, None, Ok, refl, sym, ap, ◌∙◌}
 use Rattle.std.specs.List.{list_all}
 use Rattle.std.proofs.lemmas.Bool.{and_parts, eqb-true, eq-eqb}
 use Rattle.topos_model.specs.declared.ty.Ty.{Ty, Base, One, Omega}
-use Rattle.topos_model.specs.declared.term.Term.{Term, Var, Star, Eq', Truth, Falsity, And', Implies', more_of-Term as only, end_of-Term as end}
+use Rattle.topos_model.specs.declared.term.Term.{Term, Var, Eq', Truth, Falsity, And', Implies', more_of-Term as only, end_of-Term as end}
 use Rattle.topos_model.specs.declared.context.MapTy.{MapTy}
 use Rattle.topos_model.specs.types.SameType.{same_type}
 use Rattle.topos_model.specs.formulas.Typing.{typed}

@@ -1,27 +1,22 @@
 -- Why a document is refused before its statements, as far as the language is run.
-use Rattle.std.proofs.Common.{◌≡◌, ℕ, ◌+◌, ◌<◌, ◌≤◌, Bool, true, false, not, eqb, List, [], ◌∷◌, length, get_or, Some, None, refl, arith}
+use Rattle.std.proofs.Common.{◌≡◌, ℕ, Bool, true, false, not, eqb, List, [], ◌∷◌, length, get_or, Some, None, refl, arith}
 use Rattle.std.specs.List.{range_with_len}
-use Rattle.std.proofs.lemmas.Bool.{and_parts, eqb-true, leb-true, ltb-true}
+use Rattle.std.proofs.lemmas.Bool.{and_parts, eqb-true}
 use Rattle.finite_lists.specs.Members.{In}
-use Rattle.finite_lists.specs.First.{first}
-use Rattle.finite_lists.proofs.Lists.{all_each}
 use Rattle.finite_lists.proofs.DistinctLists.{In-range_from}
 use Rattle.finite_lists.proofs.FirstAnswers.{first_none}
-use Rattle.topos_model.specs.declared.raw.RawCat.{RawCat}
 use Rattle.topos_model.specs.declared.doc.TopDecl.{TopDecl}
 use Rattle.topos_model.specs.declared.doc.Doc.{Doc}
 use Rattle.topos_model.specs.declared.fault.Fault.{Fault}
 use Rattle.topos_model.specs.declared.fault.Fault.TheVariants.{NotBuilt}
 use Rattle.topos_model.specs.categories.Category.{Category}
-use Rattle.topos_model.specs.topologies.Cover.{Site}
 use Rattle.topos_model.specs.Laws.{IsCategory}
-use Rattle.topos_model.specs.categories.Listed.{all_ends}
 use Rattle.topos_model.specs.categories.Filling.{filled_category}
-use Rattle.topos_model.specs.categories.CategoryFaults.{category_fault, IsDeclared, IsCategoryListing}
+use Rattle.topos_model.specs.categories.CategoryFaults.{category_fault}
 use Rattle.topos_model.specs.topologies.TopologyFaults.{topology_fault, first_topology_fault}
 use Rattle.topos_model.specs.statements.Declarations.{category_of, site_of}
 use Rattle.topos_model.specs.statements.Refusals.{topologies_fault}
-use Rattle.topos_model.specs.statements.Form.{max_objects, max_arrows, is_listed_composite, is_category_listing, has_range, is_trivial}
+use Rattle.topos_model.specs.statements.Form.{has_range, is_trivial}
 use Rattle.topos_model.specs.statements.Run.{site_refusal, site_refused}
 use Rattle.topos_model.specs.statements.Built.{today}
 use Rattle.topos_model.specs.statements.StagedRun.{out_of_range, in_range}

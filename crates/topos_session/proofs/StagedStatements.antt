@@ -1,16 +1,15 @@
 -- What statements answer over presheaves is what they answer in the run, and so with refusals.
-use Rattle.std.proofs.Common.{◌≡◌, ℕ, ◌+◌, ◌<◌, ◌≤◌, Bool, true, false, not, ◌&&◌, eqb, List, [], ◌∷◌, ◌++◌, map, reverse, length, take, slice_get, is_none, Option, Some, None, Ok, refl, sym, ap, ◌∙◌, subst, arith}
+use Rattle.std.proofs.Common.{◌≡◌, ℕ, ◌+◌, ◌<◌, ◌≤◌, Bool, true, false, not, ◌&&◌, eqb, List, [], ◌∷◌, ◌++◌, map, reverse, length, take, slice_get, is_none, Option, Some, None, refl, sym, ap, ◌∙◌, subst, arith}
 use Rattle.std.specs.List.{list_any, list_all, range_with_len}
 use Rattle.std.proofs.lemmas.Bool.{and_parts, and_right, eqb-true}
 use Rattle.std.proofs.lemmas.List.{map-append, take_more}
 use Rattle.std.proofs.lemmas.Option.{get_or_from_slice_get, slice_get_within}
-use Rattle.finite_lists.specs.Members.{In}
-use Rattle.finite_lists.specs.First.{first, some_if}
+use Rattle.finite_lists.specs.First.{some_if}
 use Rattle.finite_lists.proofs.Lists.{all_each, each_all}
 use Rattle.finite_lists.proofs.DistinctLists.{In-range_from}
 use Rattle.finite_lists.proofs.FirstAnswers.{first_none}
 use denote.Hole.Carrier
-use Rattle.topos_model.specs.declared.ty.Ty.{Ty, Omega}
+use Rattle.topos_model.specs.declared.ty.Ty.{Ty}
 use Rattle.topos_model.specs.declared.ty.Ty.TheBlock.{hidden-the_row-Ty-0}
 use Rattle.topos_model.specs.declared.context.Ctx.{Ctx}
 use Rattle.topos_model.specs.declared.term.Term.{Term}
@@ -30,7 +29,7 @@ use Rattle.topos_model.specs.topologies.Sheaves.{sheaf_fault}
 use Rattle.topos_model.specs.types.SameType.{same_type}
 use Rattle.topos_model.specs.statements.Needs.{named, under, needs, terms_of, types_of, is_functor}
 use Rattle.topos_model.specs.statements.Cells.{is_named, objects_of}
-use Rattle.topos_model.specs.statements.StatementFaults.{applied, foreign_map_fault, formula_fault, typing_fault}
+use Rattle.topos_model.specs.statements.StatementFaults.{foreign_map_fault, formula_fault, typing_fault}
 use Rattle.topos_model.specs.formulas.Forcing.{World, shown}
 use Rattle.topos_model.specs.statements.Declarations.{Declared, category_of, site_of, map_ends, world_under, functor_at, with_types, with_functor}
 use Rattle.topos_model.specs.statements.Answers.{tuple_of}

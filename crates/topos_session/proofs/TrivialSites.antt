@@ -1,19 +1,19 @@
 -- Where only the maximal sieves cover, the topology has no fault and each presheaf is a sheaf.
-use Rattle.std.proofs.Common.{◌≡◌, ℕ, ◌<◌, ◌≤◌, Bool, true, false, not, ◌&&◌, ◌||◌, List, [], ◌∷◌, map, length, get_or, drop, filter, Some, None, refl, sym, ap, subst, ◌∙◌, inl, inr, arith}
-use Rattle.std.specs.Prelude.{eqb, cond}
+use Rattle.std.proofs.Common.{◌≡◌, ℕ, ◌<◌, Bool, true, false, not, List, [], ◌∷◌, map, get_or, drop, filter, None, refl, sym, ap, subst, ◌∙◌, inl, inr, arith}
+use Rattle.std.specs.Prelude.{eqb}
 use Rattle.std.specs.List.{list_any, list_all, range_with_len}
 use Rattle.std.proofs.lemmas.Bool.{eqb-true, eq-eqb, or_cases, cases_Bool, true≢false}
 use Rattle.finite_lists.specs.Members.{In, Distinct}
 use Rattle.finite_lists.specs.First.{first, some_if}
 use Rattle.finite_lists.specs.Sublists.{sublists}
 use Rattle.finite_lists.proofs.Lists.{In-filter, In-filter_from, In-flat_map_from, In-map_from, all_each, each_all, some_any, whole_sublist}
-use Rattle.finite_lists.proofs.DistinctLists.{In-range, In-range_from, Distinct-range}
+use Rattle.finite_lists.proofs.DistinctLists.{In-range_from, Distinct-range}
 use Rattle.finite_lists.proofs.FirstAnswers.{first_none}
-use Rattle.topos_model.specs.categories.Category.{Category, has, into, dom, cod, compose, sieves, is_sieve}
+use Rattle.topos_model.specs.categories.Category.{Category, has, into, dom, compose, sieves, is_sieve}
 use Rattle.topos_model.specs.topologies.Cover.{Site, contains, is_listed, is_cover, covers}
 use Rattle.topos_model.specs.types.Types.{Presheaf}
 use Rattle.topos_model.specs.types.Values.{same_numbers}
-use Rattle.topos_model.specs.Laws.{IsCategory, IsFunctor, IsInto, act, size}
+use Rattle.topos_model.specs.Laws.{IsCategory, IsFunctor, act, size}
 use Rattle.topos_model.specs.presheaves.NaturalMaps.{choices}
 use Rattle.topos_model.specs.topologies.LeastCovers.{is_among_covers, least}
 use Rattle.topos_model.specs.topologies.TopologyFaults.{listed_sieves, least_twice, stability_fault, intersection_fault, least_twice_fault, topology_fault}

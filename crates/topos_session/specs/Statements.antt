@@ -1,5 +1,5 @@
 -- What the statements that are run answer over presheaves, and why they are refused.
-use Rattle.std.specs.Prelude.{◌≡◌, ℕ, not, List, [], ◌∷◌, ◌++◌, map, reverse, length, Option, Some, None, ⊤}
+use Rattle.std.specs.Prelude.{◌≡◌, not, List, [], ◌∷◌, ◌++◌, map, reverse, length, Option, Some, None, ⊤}
 use Rattle.finite_lists.specs.First.{some_if}
 use Rattle.topos_model.specs.declared.stmt.Stmt.{Stmt}
 use Rattle.topos_model.specs.declared.stmt.Stmt.TheVariants as statement

@@ -1,6 +1,6 @@
-use Rattle.std.proofs.Common.{◌≡◌, ◌<◌, ◌+◌, ℕ, List, [], ◌∷◌, ◌++◌, length, get_or, sym, ap, ◌∙◌, subst}
+use Rattle.std.proofs.Common.{◌+◌, get_or, sym}
 use Rattle.topos_model.specs.presheaves.Maps.{component}
-use Rattle.finite_colimits.specs.Classes.{IsClasses, AreClassRows}
+use Rattle.finite_colimits.specs.Classes.{IsClasses}
 use Rattle.finite_colimits.proofs.ClassRows.{one_more_row, classes_moved, rows_moved}
 use Rattle.finite_colimits.proofs.coequalize.class_rows.Goals as goal
 

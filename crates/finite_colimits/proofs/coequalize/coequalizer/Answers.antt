@@ -1,8 +1,7 @@
-use Rattle.std.proofs.Common.{◌≡◌, ◌<◌, ◌≤◌, ℕ, List, map, length, sym, ap, ◌∙◌, subst, Some, None}
+use Rattle.std.proofs.Common.{◌≡◌, ◌<◌, ◌≤◌, ℕ, List, map, length, sym, ap, ◌∙◌, subst}
 use Rattle.topos_model.specs.types.Types.{Presheaf}
 use Rattle.topos_model.specs.Laws.{IsFunctor}
-use Rattle.topos_model.specs.presheaves.Maps.{Components, IsNatural}
-use Rattle.topos_model.specs.statements.Cells.{presheaf_cells}
+use Rattle.topos_model.specs.presheaves.Maps.{IsNatural}
 use Rattle.topos_model.specs.presheaves.Colimits.{IsCoequalizer}
 use Rattle.natural_maps.specs.Room.{sized_cells}
 use Rattle.natural_maps.proofs.CellSums.{cells_by_sizes, sizes_are, sizes_over, presheaf_is}

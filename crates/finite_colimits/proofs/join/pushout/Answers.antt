@@ -1,8 +1,6 @@
-use Rattle.std.proofs.Common.{◌≡◌, ◌<◌, ◌≤◌, ◌+◌, ℕ, length, sym, ap, ◌∙◌, subst}
-use Rattle.topos_model.specs.types.Types.{Presheaf}
-use Rattle.topos_model.specs.Laws.{size, IsFunctor}
-use Rattle.topos_model.specs.presheaves.Maps.{Components, IsNatural, after}
-use Rattle.topos_model.specs.presheaves.Colimits.{IsCoproduct, IsCoequalizer, IsPushout}
+use Rattle.std.proofs.Common.{sym, ◌∙◌, subst}
+use Rattle.topos_model.specs.presheaves.Maps.{IsNatural}
+use Rattle.topos_model.specs.presheaves.Colimits.{IsCoequalizer}
 use Rattle.topos_model.proofs.MapEquations.{composites_natural}
 use Rattle.natural_maps.specs.Made.{IfMade1}
 use Rattle.finite_colimits.proofs.SumRows.{made_coproduct, made_sizes, composable}

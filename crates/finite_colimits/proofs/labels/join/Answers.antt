@@ -1,5 +1,4 @@
-use Rattle.std.proofs.Common.{◌≡◌, ◌<◌, ◌≤◌, ℕ, List, length, get_or, subst, sym, arith}
-use Rattle.finite_colimits.specs.Labels.{AreLow, AreShorter, IsRoot, AreJoined}
+use Rattle.std.proofs.Common.{◌≡◌, ◌≤◌, length, arith}
 use Rattle.finite_colimits.proofs.LabelSteps.{shorter_after, root_kept, joined_roots, joined_swapped, joined_after}
 use Rattle.finite_colimits.proofs.labels.join.Goals as goal
 

@@ -1,5 +1,5 @@
-use Rattle.std.proofs.Common.{◌≡◌, ◌<◌, ◌≤◌, ℕ, List, length, get_or, subst, sym, arith}
-use Rattle.finite_colimits.specs.Labels.{AreLow, AreShorter}
+use Rattle.std.proofs.Common.{◌≡◌, ◌<◌, ◌≤◌, length, get_or, arith}
+use Rattle.finite_colimits.specs.Labels.{AreShorter}
 use Rattle.finite_colimits.proofs.LabelSteps.{halved, shorter_after, reached_on}
 use Rattle.finite_colimits.proofs.labels.root.Goals as goal
 

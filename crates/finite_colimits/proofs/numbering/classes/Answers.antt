@@ -1,4 +1,4 @@
-use Rattle.std.proofs.Common.{◌≡◌, ℕ, List, length, subst, sym, ap, ◌∙◌}
+use Rattle.std.proofs.Common.{ℕ, List, length, subst, sym}
 use Rattle.finite_colimits.specs.Labels.{HaveClasses, AreNumbered}
 use Rattle.finite_colimits.specs.Classes.{IsClasses}
 use Rattle.finite_colimits.proofs.LabelSteps.{numbered_classes}

@@ -1,6 +1,5 @@
 use Rattle.std.proofs.Common.{◌≡◌, ◌<◌, ℕ, List, ◌++◌, ◌∷◌, [], length, get_or, sym, ap, ◌∙◌, ◌+◌, arith}
 use Rattle.std.proofs.lemmas.Option.{get_or_from_slice_get}
-use Rattle.finite_colimits.specs.Labels.{AreNumbered}
 use Rattle.finite_colimits.proofs.LabelSteps.{new_class, old_class, renamed}
 use Rattle.finite_colimits.proofs.numbering.numbered.Goals as goal
 use Rattle.finite_colimits.proofs.numbering.numbered.Goals.{then-label-y+in_ok-push+in_ok-push-2, else-label-y+in_ok-push-3}

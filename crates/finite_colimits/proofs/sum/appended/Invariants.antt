@@ -1,7 +1,4 @@
-use Rattle.std.proofs.Common.{◌≡◌, ◌+◌, ◌++◌, ◌<◌, ◌^◌, ℕ, map, take, replicate, [], length, get_or}
-use Rattle.std.specs.List.{range_with_len}
-use Rattle.topos_model.specs.Laws.{size}
-use Rattle.finite_colimits.specs.Sums.{sum_row}
+use Rattle.std.proofs.Common.{◌≡◌, ◌+◌, ◌++◌, map, take}
 use Rattle.finite_colimits.proofs.sum.appended.Given as goal
 
 abbrev pub invariant-loop-x : goal.invariant-loop-x

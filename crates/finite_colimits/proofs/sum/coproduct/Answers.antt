@@ -1,4 +1,4 @@
-use Rattle.std.proofs.Common.{◌≡◌, ◌<◌, ◌≤◌, ◌+◌, ℕ, List, map, length, sym, ap, ◌∙◌, subst}
+use Rattle.std.proofs.Common.{◌<◌, ◌≤◌, ◌+◌, ℕ, List, length, sym, ap, ◌∙◌, subst}
 use Rattle.std.proofs.lemmas.List.FromFn.{length-map-range_with_len}
 use Rattle.topos_model.specs.types.Types.{Presheaf}
 use Rattle.topos_model.specs.Laws.{size}
@@ -6,7 +6,7 @@ use Rattle.topos_model.specs.presheaves.Maps.{Components}
 use Rattle.topos_model.specs.presheaves.Colimits.{IsCoproduct}
 use Rattle.natural_maps.specs.Room.{sized_cells}
 use Rattle.natural_maps.proofs.CellSums.{cells_by_sizes, sizes_are, sizes_over}
-use Rattle.finite_colimits.specs.Sums.{sum_sizes, sum_presheaf, first_inclusion, second_inclusion}
+use Rattle.finite_colimits.specs.Sums.{sum_presheaf, first_inclusion}
 use Rattle.finite_colimits.proofs.SumRows.{sum_coproduct, coproduct_over, few_within}
 use Rattle.finite_colimits.proofs.sum.coproduct.Goals as goal
 

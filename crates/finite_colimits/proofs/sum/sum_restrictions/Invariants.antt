@@ -1,6 +1,5 @@
-use Rattle.std.proofs.Common.{◌≡◌, ◌+◌, ◌++◌, ◌<◌, ◌^◌, ℕ, map, take, replicate, [], length, get_or}
+use Rattle.std.proofs.Common.{◌≡◌, map}
 use Rattle.std.specs.List.{range_with_len}
-use Rattle.topos_model.specs.Laws.{size}
 use Rattle.finite_colimits.specs.Sums.{sum_row}
 use Rattle.finite_colimits.proofs.sum.sum_restrictions.Given as goal
 

@@ -1,7 +1,7 @@
-use Rattle.std.proofs.Common.{◌≡◌, ℕ, List, sym, ap, ◌∙◌, subst}
+use Rattle.std.proofs.Common.{◌≡◌, sym, ◌∙◌, subst}
 use Rattle.topos_model.specs.types.Types.{Presheaf}
 use Rattle.topos_model.specs.Laws.{IsFunctor}
-use Rattle.topos_model.specs.presheaves.Maps.{Components, IsNatural}
+use Rattle.topos_model.specs.presheaves.Maps.{IsNatural}
 use Rattle.natural_maps.proofs.CellSums.{presheaf_is}
 use Rattle.finite_colimits.specs.Sums.{sum_presheaf}
 use Rattle.finite_colimits.proofs.SumRows.{sum_coproduct}

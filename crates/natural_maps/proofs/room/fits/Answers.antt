@@ -1,6 +1,5 @@
-use Rattle.std.proofs.Common.{◌≡◌, ◌≤◌, length, ◌<◌, ℕ, ◌+◌, ◌-◌, ◌*◌, ◌/◌, slice_index_or, get_or, sym, ap, ◌∙◌, arith}
+use Rattle.std.proofs.Common.{◌≡◌, ◌≤◌, length, ◌<◌, ◌+◌, ◌*◌, get_or, sym, ap, arith}
 use Rattle.topos_model.specs.categories.Category.{into}
-use Rattle.natural_maps.specs.Room.{sized_cells}
 use Rattle.natural_maps.proofs.CellSums.{cells_below, cells_none, cells_more, cells_all, cells_within, more_than_share, within_share}
 use Rattle.natural_maps.proofs.room.fits.Goals as goal
 

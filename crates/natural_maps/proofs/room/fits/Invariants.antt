@@ -1,4 +1,4 @@
-use Rattle.std.proofs.Common.{◌≡◌, ℕ, ◌+◌}
+use Rattle.std.proofs.Common.{◌≡◌, ◌+◌}
 use Rattle.natural_maps.proofs.CellSums.{cells_below}
 use Rattle.natural_maps.proofs.room.fits.Given as goal
 

@@ -1,4 +1,4 @@
-use Rattle.std.proofs.Common.{◌≡◌, ◌≤◌, ◌<◌, ℕ, length, get_or, refl, arith}
+use Rattle.std.proofs.Common.{◌≤◌, get_or, arith}
 use Rattle.natural_maps.specs.Room.{sized_cells}
 use Rattle.natural_maps.proofs.CellSums.{size_within}
 use Rattle.natural_maps.proofs.room.sizes_within.Goals as goal

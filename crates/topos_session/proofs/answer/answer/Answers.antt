@@ -1,5 +1,5 @@
-use Rattle.std.proofs.Common.{sym, subst, ◌∙◌, length}
-use Rattle.topos_session.proofs.StatementAnswers.{listing_of, known_types, shown_parts, all_declared, refused_presheaf, refused_formula, refused_other, declares, shows}
+use Rattle.std.proofs.Common.{sym, ◌∙◌, length}
+use Rattle.topos_session.proofs.StatementAnswers.{listing_of, known_types, shown_parts, all_declared, refused_formula, declares, shows}
 use Rattle.topos_session.proofs.answer.answer.Goals as goal
 
 pub check-requires : goal.check-requires
