@@ -71,14 +71,6 @@ module _ (k : Category) (lk : IsCategory k) (X Y : Presheaf) (lx : IsFunctor k X
       let e : sum_presheaf k X Y ≡ Z = (coproduct_is_sum k X Y (sum_presheaf k X Y) Z (first_inclusion k X) (second_inclusion k X Y) i j lk lx ly standard co).0 in
       subst (λ (W : Presheaf). room < presheaf_cells k W) e (subst (λ (s : ℕ). room < s) (sym (cells_by_sizes k (sum_presheaf k X Y))) h)
 
--- one number more
-pub range_more : (a n : ℕ) → range_with_len a (n + 1) ≡ range_with_len a n ++ (a + n) ∷ []
-range_more a zero = let same : a ≡ a + 0 = omega arith in ap (λ m. m ∷ []) same
-range_more a (suc n) =
-    let more : suc n + 1 ≡ suc (n + 1) = omega arith in
-    let same : a + 1 + n ≡ a + suc n = omega arith in
-    ap (range_with_len a) more ∙ ap (λ l. a ∷ l) (range_more (a + 1) n) ∙ ap (λ m. a ∷ (range_with_len (a + 1) n ++ m ∷ [])) same
-
 -- a sum within the room has numbers of 32 bits
 pub few_within : (k : Category) (X Y : Presheaf) (room : ℕ) → room ≤ 64000000 → sized_cells k (sum_sizes k X Y) ≤ room → (c : ℕ) → c < k.objects → size X c + size Y c < 2 ^ 32
 few_within k X Y room r h c l =

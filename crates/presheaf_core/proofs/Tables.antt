@@ -50,7 +50,7 @@ pub all_passed : (test : ℕ → Bool) (i n : ℕ) → i < n → test i ≡ true
 all_passed test i n low e = rw (range_from i n low) (rw e refl)
 
 -- one number more
-range_more : (a n : ℕ) → range_with_len a (n + 1) ≡ range_with_len a n ++ (a + n) ∷ []
+pub range_more : (a n : ℕ) → range_with_len a (n + 1) ≡ range_with_len a n ++ (a + n) ∷ []
 range_more a zero = let same : a ≡ a + 0 = omega arith in ap (λ m. m ∷ []) same
 range_more a (suc n) =
     let more : suc n + 1 ≡ suc (n + 1) = omega arith in

@@ -1,5 +1,5 @@
 use Rattle.std.proofs.Common.{◌+◌, ◌++◌, ◌∷◌, [], sym, ap, ◌∙◌}
-use Rattle.finite_colimits.proofs.SumRows.{range_more}
+use Rattle.presheaf_core.proofs.Tables.{range_more}
 use Rattle.finite_colimits.proofs.sum.run.Goals as goal
 
 pub loop-i-preserved : goal.loop-i-preserved
