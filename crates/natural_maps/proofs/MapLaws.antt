@@ -1,4 +1,4 @@
--- Composites and identities of natural maps, and a listing without a fault.
+-- Identities of natural maps, and composites of composites.
 use Rattle.std.proofs.Common.{◌≡◌, ℕ, zero, suc, ◌<◌, List, [], ◌∷◌, length, get_or, refl, sym, ap, subst, ◌∙◌, arith}
 use Rattle.std.specs.List.{range_with_len}
 use Rattle.std.proofs.lemmas.List.{ext_get_or, get_or-map, length-map}
@@ -6,7 +6,7 @@ use Rattle.std.proofs.lemmas.List.FromFn.{length-range_with_len, get_or-range_wi
 use Rattle.topos_model.specs.categories.Category.{Category, dom}
 use Rattle.topos_model.specs.types.Types.{Presheaf}
 use Rattle.topos_model.specs.Laws.{act, size, IsFunctor}
-use Rattle.topos_model.specs.presheaves.Maps.{Components, component, apply, IsNatural, after_component, after, CompositesAreNatural, MapsAreValues}
+use Rattle.topos_model.specs.presheaves.Maps.{Components, component, apply, IsNatural, after_component, after}
 use Rattle.topos_model.specs.presheaves.NaturalMaps.{identity_map, IdentitiesAreNatural, MapsCompose}
 
 -- the component of a composite
@@ -27,31 +27,6 @@ length-after (s ∷ n) (r ∷ m) same = ap suc (length-after n m (omega arith))
 pub apply-after : (n m : Components) (c x : ℕ) → c < length m → length m ≡ length n → x < length (component m c) → apply (after n m) c x ≡ apply n c (apply m c x)
 apply-after n m c x low same within =
     ap (λ (l : List ℕ). get_or l x 0) (component-after n m c low same) ∙ get_or-map (λ y. get_or (component n c) y 0) (component m c) x 0 0 within
-
-pub composites_natural : CompositesAreNatural
-composites_natural k P Q R n m law functor second first = record {
-  objects = length-after n m (first.objects ∙ sym second.objects) ∙ first.objects;
-  total = λ c low.
-      ap length (component-after n m c (omega (arith, low, first.objects)) (first.objects ∙ sym second.objects)) ∙ length-map (component m c) (λ y. get_or (component n c) y 0) ∙ first.total c low;
-  within = λ c x low within. rw (at c x low within) (second.within c (apply m c x) low (first.within c x low within));
-  commutes = λ c f x i within.
-      let low_c : c < k.objects = subst (λ d. d < k.objects) i.1 (law.ends f i.0).1 in
-      let low_d : dom k f < k.objects = (law.ends f i.0).0 in
-      let restricted : act P f x < size P (dom k f) = functor.within c f x i within in
-      at (dom k f) (act P f x) low_d restricted ∙ ap (apply n (dom k f)) (first.commutes c f x i within)
-      ∙ second.commutes c f (apply m c x) i (first.within c x low_c within) ∙ ap (act R f) (sym (at c x low_c within));
-}
-  where
-    at : (c x : ℕ) → c < k.objects → x < size P c → apply (after n m) c x ≡ apply n c (apply m c x)
-    at c x low within = apply-after n m c x (omega (arith, low, first.objects)) (first.objects ∙ sym second.objects) (omega (arith, within, first.total c low))
-
-pub maps_are_values : MapsAreValues
-maps_are_values k P Q m n one other same =
-    ext_get_or [] m n (one.objects ∙ sym other.objects)
-    (λ c low.
-    let low_c : c < k.objects = omega (arith, low, one.objects) in
-    ext_get_or 0 (component m c) (component n c) (one.total c low_c ∙ sym (other.total c low_c))
-    (λ x within. same c x low_c (omega (arith, within, one.total c low_c))))
 
 module _ (P : Presheaf) where
   pub length-identity_map : length (identity_map P) ≡ length P.sizes

@@ -1,4 +1,5 @@
-use Rattle.natural_maps.proofs.MapLaws.{composites_natural, identities_natural, maps_compose, maps_are_values}
+use Rattle.topos_model.proofs.MapEquations.{composites_natural, maps_same}
+use Rattle.natural_maps.proofs.MapLaws.{identities_natural, maps_compose}
 use Rattle.natural_maps.proofs.AllMaps.{maps_are_natural, maps_rise}
 use Rattle.natural_maps.proofs.FaultlessMaps.{one_map}
 use Rattle.natural_maps.proofs.laws.map_laws.Goals as goal
@@ -13,7 +14,7 @@ pub returns-clause-category : goal.returns-clause-category
 returns-clause-category c = maps_compose
 
 pub returns-clause-values : goal.returns-clause-values
-returns-clause-values c = maps_are_values
+returns-clause-values c = maps_same
 
 pub returns-clause-all : goal.returns-clause-all
 returns-clause-all c = maps_are_natural
