@@ -1,2 +1,4 @@
 pub mod Carried
+pub mod Kept
+pub mod Parts
 pub mod Laws

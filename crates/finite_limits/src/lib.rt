@@ -1,6 +1,9 @@
-//! Limits of presheaves, and images.
+//! Limits of presheaves, and images: products, equalizers, pullbacks and images, each with its universal property and its order.
 #![tactic(auto)]
 
+mod agreement;
+mod kept;
 mod laws;
 
+pub use agreement::equalizer;
 pub use laws::limit_laws;
