@@ -4,3 +4,4 @@ pub mod OneLimit
 pub mod KeptNumbers
 pub mod PartPresheaf
 pub mod EqualizerParts
+pub mod ImageParts

@@ -1,7 +1,8 @@
 -- The numbers below a count that pass a test, in order, and for each number how many of them stand before it.
 use Rattle.std.specs.Prelude.{◌≡◌, ℕ, ◌<◌, Bool, true, false, List, map, length, get_or, filter}
 use Rattle.std.specs.List.{range_with_len}
-use Rattle.topos_model.specs.presheaves.Maps.{Components, component}
+use Rattle.topos_model.specs.categories.Category.{Category}
+use Rattle.topos_model.specs.presheaves.Maps.{Components, component, after_component}
 
 abbrev pub passing : (ℕ → Bool) → ℕ → List ℕ
 passing test n = filter test (range_with_len 0 n)
@@ -37,3 +38,7 @@ pub record AreValuesMarked (count : ℕ) (m : List ℕ) (n : ℕ) (marks : List 
 -- y is a value
 abbrev pub IsValue : List ℕ → ℕ → Type 0
 IsValue m y = (x : ℕ) × (x < length m) × (get_or m x 0 ≡ y)
+
+-- the place of each value of m
+abbrev pub value_places : Category → Components → Components → Components
+value_places k r m = map (λ c. after_component (component r c) (component m c)) (range_with_len 0 k.objects)

@@ -4,6 +4,8 @@
 mod agreement;
 mod kept;
 mod laws;
+mod values;
 
 pub use agreement::equalizer;
 pub use laws::limit_laws;
+pub use values::image;
