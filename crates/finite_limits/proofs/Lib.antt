@@ -5,3 +5,6 @@ pub mod KeptNumbers
 pub mod PartPresheaf
 pub mod EqualizerParts
 pub mod ImageParts
+pub mod PairNumbers
+pub mod PairPresheaf
+pub mod ProductPairs

@@ -1,4 +1,5 @@
 pub mod Carried
 pub mod Kept
 pub mod Parts
+pub mod Pairs
 pub mod Laws

@@ -2,10 +2,13 @@
 #![tactic(auto)]
 
 mod agreement;
+mod all_pairs;
 mod kept;
 mod laws;
+mod pairing;
 mod values;
 
 pub use agreement::equalizer;
+pub use all_pairs::product;
 pub use laws::limit_laws;
 pub use values::image;
