@@ -1,11 +1,11 @@
 -- The values of a map are its image.
-use Rattle.std.proofs.Common.{◌≡◌, ℕ, ◌+◌, ◌<◌, Bool, true, false, List, [], map, length, get_or, replicate, set, refl, sym, ap, subst, ◌∙◌, arith, inl, inr, get_or-set_same, get_or-set_other}
+use Rattle.std.proofs.Common.{◌≡◌, ℕ, ◌+◌, ◌<◌, Bool, true, false, List, [], length, get_or, replicate, set, refl, sym, ap, subst, ◌∙◌, arith, inl, inr, get_or-set_same, get_or-set_other}
 use Rattle.std.proofs.lemmas.Bool.{cases_lt, cases_eq}
 use Rattle.std.proofs.lemmas.List.{length-map, get_or-map, get_or-replicate, length-replicate, length-set, get_or_past}
 use Rattle.std.proofs.lemmas.List.FromFn.{length-map-range_with_len, get_or-map-range_with_len}
 use Rattle.topos_model.specs.categories.Category.{Category, dom}
 use Rattle.topos_model.specs.types.Types.{Presheaf}
-use Rattle.topos_model.specs.Laws.{IsInto, IsCategory, act, size, IsFunctor}
+use Rattle.topos_model.specs.Laws.{IsCategory, act, size, IsFunctor}
 use Rattle.topos_model.specs.presheaves.Maps.{Components, component, apply, after_component, IsNatural}
 use Rattle.topos_model.specs.presheaves.Limits.{IsImage}
 use Rattle.topos_model.specs.statements.Cells.{presheaf_cells}

@@ -8,3 +8,5 @@ pub mod ImageParts
 pub mod PairNumbers
 pub mod PairPresheaf
 pub mod ProductPairs
+pub mod Threads
+pub mod PullbackPairs

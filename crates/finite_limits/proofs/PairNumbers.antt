@@ -1,5 +1,5 @@
 -- The pairs of numbers and the members of their fibres, in lexicographic order.
-use Rattle.std.proofs.Common.{◌≡◌, ℕ, zero, suc, ◌+◌, ◌-◌, ◌<◌, ◌≤◌, List, [], ◌∷◌, ◌++◌, map, length, get_or, replicate, refl, sym, ap, subst, ◌∙◌, arith, ◌⊎◌, inl, inr}
+use Rattle.std.proofs.Common.{◌≡◌, ℕ, zero, suc, ◌+◌, ◌-◌, ◌<◌, ◌≤◌, List, [], ◌∷◌, ◌++◌, length, get_or, replicate, refl, sym, ap, subst, ◌∙◌, arith, ◌⊎◌, inl, inr}
 use Rattle.std.specs.List.{flat_map, range_with_len}
 use Rattle.std.proofs.lemmas.Bool.{cases_lt}
 use Rattle.std.proofs.lemmas.Grind.{flat_map-append}
@@ -86,9 +86,9 @@ module _ (fibre : ℕ → List ℕ) (a : ℕ) (p q : List ℕ) (is : q ≡ secon
             | inr c ↦ inr (
               late t c (omega (arith, long)) ∙ sym eu,
               let w : get_or (fibre a) (t - length p) 0 < get_or (fibre a) (u - length p) 0 = up (t - length p) (u - length p) (omega arith) (omega (arith, long)) in
-              let et : get_or later_seconds t 0 ≡ get_or (fibre a) (t - length p) 0 = late_second t c in
-              let eu : get_or later_seconds u 0 ≡ get_or (fibre a) (u - length p) 0 = late_second u b in
-              omega arith,
+                  let et : get_or later_seconds t 0 ≡ get_or (fibre a) (t - length p) 0 = late_second t c in
+                  let eu : get_or later_seconds u 0 ≡ get_or (fibre a) (u - length p) 0 = late_second u b in
+                  omega arith,
             )
           ]
     ];
@@ -141,6 +141,14 @@ firsts_long fibre (suc a) =
     ap length (firsts_more fibre a) ∙ length-append (firsts fibre a) (replicate (length (fibre a)) a) ∙ ap (λ n. length (firsts fibre a) + n) (length-replicate (length (fibre a)) a) in
     let more' : length (seconds fibre (a + 1)) ≡ length (seconds fibre a) + length (fibre a) = ap length (seconds_more fibre a) ∙ length-append (seconds fibre a) (fibre a) in
     subst (λ (m : ℕ). length (firsts fibre m) ≡ length (seconds fibre m)) one (let rest : length (firsts fibre a) ≡ length (seconds fibre a) = firsts_long fibre a in omega arith)
+
+-- more numbers have no fewer pairs
+pub seconds_rise : (fibre : ℕ → List ℕ) (d a b : ℕ) → a + d ≡ b → length (seconds fibre a) ≤ length (seconds fibre b)
+seconds_rise fibre zero a b e = let same : a ≡ b = omega arith in rw same (omega arith)
+seconds_rise fibre (suc d) a b e =
+    let rest : length (seconds fibre (a + 1)) ≤ length (seconds fibre b) = seconds_rise fibre d (a + 1) b (omega arith) in
+    let more : length (seconds fibre (a + 1)) ≡ length (seconds fibre a) + length (fibre a) = ap length (seconds_more fibre a) ∙ length-append (seconds fibre a) (fibre a) in
+    omega arith
 
 module _ (related : ℕ → ℕ → Type 0) (a b : ℕ) (fibre : ℕ → List ℕ) (l : List ℕ) (fibres : AreFibres related a b fibre l) where
   all : AreListed fibre a (firsts fibre a) (seconds fibre a)

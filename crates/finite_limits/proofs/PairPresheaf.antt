@@ -1,19 +1,18 @@
 -- Pairs of elements of two presheaves, object by object, are a presheaf with two maps.
-use Rattle.std.proofs.Common.{◌≡◌, ℕ, ◌+◌, ◌<◌, ◌≤◌, ◌^◌, List, [], map, length, get_or, refl, sym, ap, subst, ◌∙◌, arith, ◌⊎◌, inl, inr}
+use Rattle.std.proofs.Common.{◌≡◌, ℕ, ◌+◌, ◌<◌, ◌≤◌, ◌^◌, List, [], map, length, get_or, refl, sym, ap, subst, ◌∙◌, arith}
 use Rattle.std.specs.List.{range_with_len}
 use Rattle.std.proofs.lemmas.List.{length-map, get_or-map}
 use Rattle.std.proofs.lemmas.List.FromFn.{length-map-range_with_len, get_or-map-range_with_len}
-use Rattle.topos_model.specs.categories.Category.{Category, dom, cod}
+use Rattle.topos_model.specs.categories.Category.{Category, dom}
 use Rattle.topos_model.specs.types.Types.{Presheaf}
 use Rattle.topos_model.specs.Laws.{IsInto, IsCategory, act, size, IsFunctor}
 use Rattle.topos_model.specs.presheaves.Maps.{Components, component, apply}
-use Rattle.topos_model.specs.statements.Cells.{presheaf_cells}
 use Rattle.natural_maps.specs.Room.{sized_cells}
-use Rattle.natural_maps.proofs.CellSums.{cells_by_sizes, size_within}
+use Rattle.natural_maps.proofs.CellSums.{size_within}
 use Rattle.natural_maps.proofs.Triangles.{codomain_object}
 use Rattle.natural_maps.proofs.Lifts.{HasValues}
 use Rattle.finite_limits.specs.Carried.{IsCarried}
-use Rattle.finite_limits.specs.Pairs.{IsPairPlace, ArePairs, AreFibres, firsts, seconds, starts, first_parts, second_parts, start_rows, place_rows, IsPaired, restricted_pair, pair_row, pair_presheaf, AreFewPairs, AreRestricted}
+use Rattle.finite_limits.specs.Pairs.{ArePairs, AreFibres, firsts, seconds, starts, first_parts, second_parts, start_rows, place_rows, IsPaired, restricted_pair, pair_row, pair_presheaf, AreFewPairs, AreRestricted}
 use Rattle.finite_limits.proofs.PairNumbers.{fibre_pairs}
 
 module _ (k : Category) (lk : IsCategory k) (X Y : Presheaf) (lx : IsFunctor k X) (ly : IsFunctor k Y) (p q s l : Components) (paired : IsPaired k X Y p q s l) where

@@ -64,15 +64,7 @@ fn pair_restrictions(
         let second = pairs.second.get(from).as_slice();
         let starts = pairs.starts.get(to).as_slice();
         let places = pairs.places.get(to).as_slice();
-        rows.push(restricted(
-            alloc,
-            first,
-            second,
-            x.row(f),
-            y.row(f),
-            starts,
-            places,
-        )?)?;
+        rows.push(restricted(alloc, first, second, x.row(f), y.row(f), starts, places)?)?;
     }
     Ok(rows)
 }

@@ -18,17 +18,17 @@ loop-c-preserved c =
       first =
           c.in_ok-push.ensures.ok ∙ ap (λ (rows : List (List ℕ)). rows ++ c.in_ok-left.left ∷ []) c.loop-c.invariant.first
           ∙ ap (λ (row : List ℕ). map first (range_with_len 0 d) ++ row ∷ [])
-            (c.in_ok-left.ensures.first ∙ ap (λ (n : ℕ). firsts (whole n) c.size-a.result) b ∙ ap (firsts (whole (size c.args.y.now d))) a)
+          (c.in_ok-left.ensures.first ∙ ap (λ (n : ℕ). firsts (whole n) c.size-a.result) b ∙ ap (firsts (whole (size c.args.y.now d))) a)
           ∙ sym (map-range_with_len_more first 0 d d (omega arith));
       second =
           c.in_ok-push-2.ensures.ok ∙ ap (λ (rows : List (List ℕ)). rows ++ c.in_ok-left.right ∷ []) c.loop-c.invariant.second
           ∙ ap (λ (row : List ℕ). map second (range_with_len 0 d) ++ row ∷ [])
-            (c.in_ok-left.ensures.second ∙ ap (λ (n : ℕ). seconds (whole n) c.size-a.result) b ∙ ap (seconds (whole (size c.args.y.now d))) a)
+          (c.in_ok-left.ensures.second ∙ ap (λ (n : ℕ). seconds (whole n) c.size-a.result) b ∙ ap (seconds (whole (size c.args.y.now d))) a)
           ∙ sym (map-range_with_len_more second 0 d d (omega arith));
       starts =
           c.in_ok-push-3.ensures.ok ∙ ap (λ (rows : List (List ℕ)). rows ++ c.in_ok-start.start ∷ []) c.loop-c.invariant.starts
           ∙ ap (λ (row : List ℕ). map start (range_with_len 0 d) ++ row ∷ [])
-            (c.in_ok-start.ensures ∙ ap (λ (n : ℕ). starts (whole n) c.size-a.result) b ∙ ap (starts (whole (size c.args.y.now d))) a)
+          (c.in_ok-start.ensures ∙ ap (λ (n : ℕ). starts (whole n) c.size-a.result) b ∙ ap (starts (whole (size c.args.y.now d))) a)
           ∙ sym (map-range_with_len_more start 0 d d (omega arith));
       places =
           c.in_ok-push-4.ensures.ok ∙ ap (λ (rows : List (List ℕ)). rows ++ c.in_ok-place.place ∷ []) c.loop-c.invariant.places

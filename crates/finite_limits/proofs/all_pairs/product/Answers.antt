@@ -55,7 +55,7 @@ paired-requires-clause-sizes c =
     let made = c.in_ok-pairs-in-Some in
     sizes.0 ∙ c.as_slice.ensures ∙ c.in_ok-counts.ensures
     ∙ made_sizes c.args.cat.now c.sizes_within.ensures.lawful c.args.x.now c.args.y.now c.requires.first c.requires.second made.pairs.first made.pairs.second made.pairs.starts made.pairs.places
-      made.ensures.first made.ensures.second made.ensures.starts made.ensures.places
+    made.ensures.first made.ensures.second made.ensures.starts made.ensures.places
 
 pub returns-clause-product : goal.returns-clause-product
 returns-clause-product c =

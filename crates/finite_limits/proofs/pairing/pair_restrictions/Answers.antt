@@ -1,10 +1,10 @@
-use Rattle.std.proofs.Common.{◌≡◌, ◌<◌, ◌+◌, ◌++◌, ◌∷◌, [], ℕ, List, map, length, get_or, refl, sym, ap, ◌∙◌, subst, arith}
+use Rattle.std.proofs.Common.{◌≡◌, ◌<◌, ◌++◌, ◌∷◌, [], ℕ, List, map, length, refl, sym, ap, ◌∙◌, arith}
 use Rattle.std.specs.List.{range_with_len}
 use Rattle.std.proofs.lemmas.List.FromFn.{map-range_with_len_more}
 use Rattle.std.proofs.lemmas.Option.{get_or_from_slice_get}
-use Rattle.topos_model.specs.categories.Category.{dom, cod}
+use Rattle.topos_model.specs.categories.Category.{cod}
 use Rattle.topos_model.specs.presheaves.Maps.{component}
-use Rattle.finite_limits.specs.Pairs.{AreRestricted, restricted_pair, pair_row}
+use Rattle.finite_limits.specs.Pairs.{pair_row}
 use Rattle.finite_limits.proofs.PairPresheaf.{pairs_restricted, restricted_moved, row_moved}
 use Rattle.finite_limits.proofs.pairing.pair_restrictions.Goals as goal
 

@@ -1,4 +1,4 @@
-use Rattle.std.proofs.Common.{◌≡◌, sym, ◌∙◌, subst}
+use Rattle.std.proofs.Common.{sym, ◌∙◌, subst}
 use Rattle.topos_model.specs.types.Types.{Presheaf}
 use Rattle.topos_model.specs.Laws.{IsFunctor}
 use Rattle.topos_model.specs.presheaves.Maps.{IsNatural}

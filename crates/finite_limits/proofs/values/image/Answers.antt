@@ -1,6 +1,6 @@
-use Rattle.std.proofs.Common.{◌≡◌, ◌<◌, ℕ, length, sym, ap, ◌∙◌, subst}
+use Rattle.std.proofs.Common.{◌<◌, ℕ, sym, ◌∙◌, subst}
 use Rattle.topos_model.specs.types.Types.{Presheaf}
-use Rattle.topos_model.specs.presheaves.Maps.{Components, component, apply, IsNatural}
+use Rattle.topos_model.specs.presheaves.Maps.{Components, apply, IsNatural}
 use Rattle.topos_model.specs.presheaves.Limits.{IsImage}
 use Rattle.finite_limits.specs.Kept.{value_places}
 use Rattle.finite_limits.specs.Parts.{part_presheaf}

@@ -1,4 +1,4 @@
-use Rattle.std.proofs.Common.{◌≡◌, ◌<◌, ◌+◌, ℕ, List, length, get_or, sym, ap, ◌∙◌, subst, arith}
+use Rattle.std.proofs.Common.{◌<◌, ◌+◌, ℕ, List, length, get_or, sym, ap, ◌∙◌, subst, arith}
 use Rattle.topos_model.specs.Laws.{size}
 use Rattle.topos_model.specs.presheaves.Maps.{component, apply}
 use Rattle.finite_limits.specs.Kept.{AreKept, IsValue}
