@@ -25,6 +25,12 @@ module _ (k : Category) (lk : IsCategory k) (A X Y C : Presheaf) (la : IsFunctor
   made_pushout Z q l r co le re =
       subst (λ (t : Components). IsPushout k A X Y m n Z l t) (sym re) (subst (λ (t : Components). IsPushout k A X Y m n Z t (after q j)) (sym le) (whole Z q co))
 
+  pub pushout_exists : (made : Made1) → made ≡ one.Over → IfOver1 made ((Z : Presheaf) × (q : Components) × IsCoequalizer k A C f s Z q) →
+      (W : Presheaf) × (l : Components) × (r : Components) × IsPushout k A X Y m n W l r
+  pushout_exists made e some =
+      let w : (Z : Presheaf) × (q : Components) × IsCoequalizer k A C f s Z q = subst (λ (d : Made1). IfOver1 d ((Z : Presheaf) × (q : Components) × IsCoequalizer k A C f s Z q)) e some in
+      (w.0, after w.1 i, after w.1 j, whole w.0 w.1 w.2)
+
   pub pushout_over : (room : ℕ) (made : Made1) → made ≡ one.Over → IfOver1 made ((Z : Presheaf) × (q : Components) × IsCoequalizer k A C f s Z q) →
       IfOver1 made ((Z : Presheaf) (q : Components) → IsCoequalizer k A C f s Z q → IsOverRoom k room Z) →
       (W : Presheaf) (l r : Components) → IsPushout k A X Y m n W l r → IsOverRoom k room W

@@ -58,6 +58,7 @@ pub fn pushout(
     ensures pushout { IfOk result (λ made. IfMade2 made (IsPushout cat.now a.now x.now y.now m.now n.now)) }
     ensures room { IfOk result (λ made. IfMade2 made (λ Z _ _. presheaf_cells cat.now Z ≤ room)) }
     ensures over { IfOk result (λ made. IfOver2 made ((Z : Presheaf) (i j : Components) → IsPushout cat.now a.now x.now y.now m.now n.now Z i j → IsOverRoom cat.now room Z)) }
+    ensures exists { IfOk result (λ made. IfOver2 made ((Z : Presheaf) × (i : Components) × (j : Components) × IsPushout cat.now a.now x.now y.now m.now n.now Z i j)) }
 {
     let sizes = sizes_of_both(alloc, cat, x, y)?;
     let (sum, i, j) = summed(alloc, cat, x, y, sizes)?;

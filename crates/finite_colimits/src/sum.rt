@@ -147,6 +147,7 @@ pub fn coproduct(
     ensures coproduct { IfOk result (λ made. IfMade2 made (IsCoproduct cat.now x.now y.now)) }
     ensures room { IfOk result (λ made. IfMade2 made (λ Z _ _. presheaf_cells cat.now Z ≤ room)) }
     ensures over { IfOk result (λ made. IfOver2 made ((Z : Presheaf) (i j : Components) → IsCoproduct cat.now x.now y.now Z i j → IsOverRoom cat.now room Z)) }
+    ensures exists { IfOk result (λ made. IfOver2 made ((Z : Presheaf) × (i : Components) × (j : Components) × IsCoproduct cat.now x.now y.now Z i j)) }
 {
     let counts = counts(alloc, cat, x, y)?;
     match sizes_within(alloc, cat, counts.as_slice(), room)? {

@@ -4,7 +4,7 @@ use Rattle.topos_model.specs.presheaves.Colimits.{IsCoequalizer}
 use Rattle.topos_model.proofs.MapEquations.{composites_natural}
 use Rattle.natural_maps.specs.Made.{IfMade1}
 use Rattle.finite_colimits.proofs.SumRows.{made_coproduct, made_sizes, composable}
-use Rattle.finite_colimits.proofs.MadePushout.{made_pushout, pushout_over}
+use Rattle.finite_colimits.proofs.MadePushout.{made_pushout, pushout_over, pushout_exists}
 use Rattle.finite_colimits.proofs.join.pushout.Goals as goal
 
 pub after-requires-clause-objects : goal.after-requires-clause-objects
@@ -58,6 +58,14 @@ returns-in-Over-clause-over c =
     pushout_over c.args.cat.now c.sizes_of_both.ensures.lawful c.args.a.now c.args.x.now c.args.y.now s.sum c.requires.domain c.requires.left c.requires.right c.args.m.now c.args.n.now s.i s.j
     c.requires.first c.requires.second co (made_sizes c.args.cat.now c.sizes_of_both.ensures.lawful c.args.x.now c.args.y.now c.requires.left c.requires.right s.sum s.i s.j s.ensures.sum s.ensures.first s.ensures.second)
     c.in_ok-first.first c.in_ok-second.second c.in_ok-first.ensures c.in_ok-second.ensures c.args.room c.in_ok-coequalizer.field-0 c.in-Over.is c.in_ok-coequalizer.ensures.exists c.in_ok-coequalizer.ensures.over
+
+pub returns-in-Over-clause-exists : goal.returns-in-Over-clause-exists
+returns-in-Over-clause-exists c =
+    let s = c.in_ok-sum in
+    let co = made_coproduct c.args.cat.now c.sizes_of_both.ensures.lawful c.args.x.now c.args.y.now c.requires.left c.requires.right s.sum s.i s.j s.ensures.sum s.ensures.first s.ensures.second in
+    pushout_exists c.args.cat.now c.sizes_of_both.ensures.lawful c.args.a.now c.args.x.now c.args.y.now s.sum c.requires.domain c.requires.left c.requires.right c.args.m.now c.args.n.now s.i s.j
+    c.requires.first c.requires.second co (made_sizes c.args.cat.now c.sizes_of_both.ensures.lawful c.args.x.now c.args.y.now c.requires.left c.requires.right s.sum s.i s.j s.ensures.sum s.ensures.first s.ensures.second)
+    c.in_ok-first.first c.in_ok-second.second c.in_ok-first.ensures c.in_ok-second.ensures c.in_ok-coequalizer.field-0 c.in-Over.is c.in_ok-coequalizer.ensures.exists
 
 pub after-requires-in-Made-clause-objects : goal.after-requires-in-Made-clause-objects
 after-requires-in-Made-clause-objects c =

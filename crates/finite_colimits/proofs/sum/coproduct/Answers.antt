@@ -6,7 +6,7 @@ use Rattle.topos_model.specs.presheaves.Maps.{Components}
 use Rattle.topos_model.specs.presheaves.Colimits.{IsCoproduct}
 use Rattle.natural_maps.specs.Room.{sized_cells}
 use Rattle.natural_maps.proofs.CellSums.{cells_by_sizes, sizes_are, sizes_over}
-use Rattle.finite_colimits.specs.Sums.{sum_presheaf, first_inclusion}
+use Rattle.finite_colimits.specs.Sums.{sum_presheaf, first_inclusion, second_inclusion}
 use Rattle.finite_colimits.proofs.SumRows.{sum_coproduct, coproduct_over, few_within}
 use Rattle.finite_colimits.proofs.sum.coproduct.Goals as goal
 
@@ -19,6 +19,15 @@ returns-in-None-clause-over c =
     coproduct_over c.args.cat.now c.sizes_within.ensures.lawful c.args.x.now c.args.y.now c.requires.first c.requires.second c.args.room
     (subst (λ (s : List ℕ). c.args.room < sized_cells c.args.cat.now s) (c.as_slice.ensures ∙ c.in_ok-counts.ensures)
     (sizes_over c.args.cat.now c.as_slice.result.now c.args.room c.in_ok-sizes_within.field-0 c.in-None.is c.in_ok-sizes_within.ensures.sizes))
+
+pub returns-in-None-clause-exists : goal.returns-in-None-clause-exists
+returns-in-None-clause-exists c =
+    let k = c.args.cat.now in (
+      sum_presheaf k c.args.x.now c.args.y.now,
+      first_inclusion k c.args.x.now,
+      second_inclusion k c.args.x.now c.args.y.now,
+      sum_coproduct k c.sizes_within.ensures.lawful c.args.x.now c.args.y.now c.requires.first c.requires.second,
+    )
 
 pub summed-requires-clause-few : goal.summed-requires-clause-few
 summed-requires-clause-few c =
