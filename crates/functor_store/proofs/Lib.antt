@@ -1,0 +1,5 @@
+pub mod Groups
+pub mod Held
+pub mod Steps
+pub mod Reading
+pub mod ArrowTables

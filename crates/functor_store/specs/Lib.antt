@@ -1,0 +1,4 @@
+pub mod Groups
+pub mod Store
+pub mod Fields
+pub mod Faithful
