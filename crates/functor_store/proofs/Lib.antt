@@ -3,3 +3,6 @@ pub mod Held
 pub mod Steps
 pub mod Reading
 pub mod ArrowTables
+pub mod Building
+pub mod Faithful
+pub mod TwoObjects

@@ -5,6 +5,8 @@ mod fault;
 mod numbers;
 mod store;
 mod tables;
+#[cfg(test)]
+mod tests;
 
 pub use fault::{Over, StoreFault};
 pub use store::{FunctorId, FunctorStore};
