@@ -34,7 +34,7 @@ longer [] last next row grown (suc k) = ([], refl)
 longer (page ∷ pages) last next row grown zero = ([], sym (append-nil page.items))
 longer (page ∷ pages) last next row grown (suc k) = longer pages last next row grown k
 
-window_kept : (at len : ℕ) (xs more : List ℕ) → at + len ≤ length xs → take len (drop at (xs ++ more)) ≡ take len (drop at xs)
+pub window_kept : (at len : ℕ) (xs more : List ℕ) → at + len ≤ length xs → take len (drop at (xs ++ more)) ≡ take len (drop at xs)
 window_kept at len xs more le =
     let inside : len ≤ length (drop at xs) = grind (arith, common_steps) in
     ap (take len) (drop-append-le at xs more (omega (arith, le))) ∙ take-append-le len (drop at xs) more inside

@@ -62,7 +62,7 @@ impl RowArena {
         RowArena {
             alloc,
             full: Vec::new(alloc),
-            last: Page::empty(alloc),
+            last: Page::empty(),
             places: Vec::new(alloc),
             room: 0,
             cells: 0,

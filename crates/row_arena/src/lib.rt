@@ -2,6 +2,7 @@
 #![tactic(auto)]
 
 mod arena;
+mod cells;
 mod page;
 
 pub use arena::{RowArena, RowId};
