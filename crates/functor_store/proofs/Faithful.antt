@@ -68,11 +68,12 @@ module _ (s : Site) (functors : List Presheaf) where
       }
 
   -- one element at each object, which restricts to the one element, has the elements of One
-  pub one_elements : (F : Functor) → ((c : ℕ) → c < s.category.objects → size_at F c ≡ 1)
+  pub one_elements : (F : Functor) → length F.rows ≡ s.category.objects → ((c : ℕ) → c < s.category.objects → size_at F c ≡ 1)
       → ((f k : ℕ) → f < length s.category.ends → k < size_at F (cod s.category f) → restriction_along s.category.ends F f k ≡ 0)
       → ((c k : ℕ) → c < s.category.objects → k < size_at F c → element_at F c k ≡ []) → HasElements s functors One F
   unfolding elements restr
-  one_elements F sizes along rows = record {
+  one_elements F objects sizes along rows = record {
+    objects = objects;
     sizes = sizes;
     restrictions = λ f k l m. record { within = omega (arith, along f k l m); is = ap (λ x. get_or (Star ∷ []) x Star) (along f k l m) };
     rows = rows;

@@ -4,5 +4,6 @@ pub mod Steps
 pub mod Reading
 pub mod ArrowTables
 pub mod Building
+pub mod Costs
 pub mod Faithful
 pub mod TwoObjects

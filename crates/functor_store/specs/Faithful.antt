@@ -39,6 +39,7 @@ module _ (s : Site) (functors : List Presheaf) where
 
   -- the functor has the elements of the type in order, with their restrictions and rows
   pub record HasElements (T : Ty) (F : Functor) : Type 0 where
+    pub objects : length F.rows ≡ s.category.objects
     pub sizes : (c : ℕ) → c < s.category.objects → size_at F c ≡ length (elements s functors T c)
     pub restrictions : (f k : ℕ) → f < length s.category.ends → k < size_at F (cod s.category f) →
         Stands T (dom s.category f) (restriction_along s.category.ends F f k) (restr s functors T f (get_or (elements s functors T (cod s.category f)) k Star))
