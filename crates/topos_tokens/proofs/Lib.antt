@@ -1,0 +1,6 @@
+pub mod Characters
+pub mod Words
+pub mod Fronts
+pub mod Blanks
+pub mod Digits
+pub mod Runs

@@ -1,0 +1,26 @@
+-- What the tokens of a text are, and why it has none.
+use Rattle.std.specs.Prelude.{◌≡◌, ℕ, List, [], None}
+use Rattle.topos_model.specs.declared.fault.Fault.TheVariants.{BadToken}
+use Rattle.topos_text.specs.Tokens.{Token}
+use Rattle.topos_text.specs.Lexing.{Lex, IsBadToken}
+use Rattle.topos_text.specs.Limits.{token_fault}
+use Rattle.topos_text.specs.TextFaults.{IsShort, TextFault}
+use Rattle.topos_tokens.specs.declared.fault.ReadFault.{ReadFault}
+use Rattle.topos_tokens.specs.declared.fault.ReadFault.TheVariants.{NoMemory, Refused}
+
+-- The text is no longer than the limit and has these tokens, none of which passes a limit.
+pub record HasTokens (bytes : List ℕ) (toks : List Token) : Type 0 where
+  pub short : IsShort bytes
+  pub lex : Lex bytes toks
+  pub fits : token_fault [] toks ≡ None
+
+-- memory may run out, and a text is refused by its first fault
+abbrev pub IsRefused : List ℕ → ReadFault → Type 0
+IsRefused bytes NoMemory = Unit {0}
+IsRefused bytes (Refused fault) = TextFault bytes fault
+
+-- memory may run out, and at the byte no token begins
+abbrev pub IsLexFault : List ℕ → ReadFault → Type 0
+IsLexFault bytes NoMemory = Unit {0}
+IsLexFault bytes (Refused (BadToken n)) = IsBadToken bytes n
+IsLexFault bytes (Refused fault) = ⊥
