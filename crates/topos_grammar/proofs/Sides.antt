@@ -1,0 +1,248 @@
+-- The codes read the right sides of the grammar, and nothing else.
+use Rattle.std.proofs.Common.{◌≡◌, ◌⊎◌, inl, inr, Bool, true, false, List, [], ◌∷◌, ◌++◌, refl, sym, ap, subst, ◌∙◌}
+use Rattle.std.proofs.lemmas.List.{append-nil}
+use Rattle.topos_text.specs.declared.word.Word.TheVariants as word
+use Rattle.topos_text.specs.declared.symbol.Symbol.TheVariants as symbol
+use Rattle.topos_text.specs.Tokens.{Token, Written, Name, Reserved, Sign}
+use Rattle.topos_text.specs.Trees.{TypeTree, TermTree, Binding, Binder, Forall, Exists, Unique, Fun}
+use Rattle.topos_text.specs.Trees as tree
+use Rattle.topos_text.specs.Phrases.{Part, token, type, term, commas, binding}
+use Rattle.topos_text.specs.Phrases as phrase
+use Rattle.topos_text.specs.Types.{TypeSide}
+use Rattle.topos_text.specs.Types as types
+use Rattle.topos_text.specs.Terms.{TermSide, ends_with_body, binder_word}
+use Rattle.topos_text.specs.Terms as terms
+use Rattle.topos_text.specs.Documents.{Derives, nothing, this, by_type, by_term}
+use Rattle.topos_text.proofs.DerivationParts.{whole_type, whole_term}
+use Rattle.topos_grammar.specs.Kinds.{Sort, OfTerm, OfBinding, Tree, Kind, AnyType, ProductType, MoreFactors, PrefixType, AnyTerm, Disjunction, MoreDisjuncts, Conjunction, MoreConjuncts, Negation, BinderTerm, Comparison, Application, MoreArguments, Atom, Parentheses, Context, part, Side}
+use Rattle.topos_grammar.specs.Codes.{Class, the, sign, Code, give, eat, name, call, peek, loop, code, unless, eat_word, eat_sign, bind, bound, in_parentheses}
+use Rattle.topos_grammar.proofs.Accepting.{Accepts, All}
+
+abbrev pub after_disjunction : Bool → TermTree → Code OfTerm
+after_disjunction b s = unless b (peek (sign symbol.Implies) (eat_sign symbol.Implies (call AnyTerm (λ t. give (tree.Implies s t)))) (give s)) (give s)
+
+abbrev pub more_disjuncts : Bool → TermTree → Code OfTerm
+more_disjuncts b r = unless b (peek (the word.Or) (eat_word word.Or (call Conjunction (λ s. call (MoreDisjuncts (tree.Or r s)) give))) (give r)) (give r)
+
+abbrev pub more_conjuncts : Bool → TermTree → Code OfTerm
+more_conjuncts b r = unless b (peek (the word.And) (eat_word word.And (call Negation (λ s. call (MoreConjuncts (tree.And r s)) give))) (give r)) (give r)
+
+any_term_side : (b : Bool) (s t : TermTree) (rest : List Part) → ends_with_body s ≡ b → Accepts (after_disjunction b s) t rest → TermSide (phrase.AnyTerm t) (term (phrase.Disjunction s) ∷ rest)
+any_term_side true s t rest is (e, e1) = rw (e1, e) terms.alone
+any_term_side false s t rest is (inl (r2, e2, (u, r3, e3, (e, e4)))) = rw (e2, e3, e4, e) (terms.implication is)
+any_term_side false s t rest is (inr (e, e1)) = rw (e1, e) terms.alone
+
+more_disjuncts_side : (b : Bool) (r t : TermTree) (side : List Part) → ends_with_body r ≡ b → Accepts (more_disjuncts b r) t side → TermSide (phrase.MoreDisjuncts r t) side
+more_disjuncts_side true r t side is (e, e1) = rw (e1, e) terms.disjunction_end
+more_disjuncts_side false r t side is (inl (r1, e1, (s, r2, e2, (u, r3, e3, (e, e4))))) = rw (e1, e2, e3, e4, e) (terms.disjunction_more is)
+more_disjuncts_side false r t side is (inr (e, e1)) = rw (e1, e) terms.disjunction_end
+
+more_conjuncts_side : (b : Bool) (r t : TermTree) (side : List Part) → ends_with_body r ≡ b → Accepts (more_conjuncts b r) t side → TermSide (phrase.MoreConjuncts r t) side
+more_conjuncts_side true r t side is (e, e1) = rw (e1, e) terms.conjunction_end
+more_conjuncts_side false r t side is (inl (r1, e1, (s, r2, e2, (u, r3, e3, (e, e4))))) = rw (e1, e2, e3, e4, e) (terms.conjunction_more is)
+more_conjuncts_side false r t side is (inr (e, e1)) = rw (e1, e) terms.conjunction_end
+
+bound_side : (b : Binder) (t : TermTree) (side : List Part) → Accepts (bound b) t side → TermSide (phrase.BinderTerm t) side
+bound_side b t side (r1, e1, (x, r2, e2, (r3, e3, (T, r4, e4, (r5, e5, (u, r6, e6, (e, e7))))))) = rw (e1, e2, e3, e4, e5, e6, e7, e) terms.bound
+
+-- the items of a context behind the first
+context_items : (vs : List Binding) (front : List Part) → All (λ v z. Accepts {s = OfBinding} (eat_sign symbol.Comma (bind (λ c. give c))) v z) vs front → (b : Binding) (rest : List Part) → rest ≡ front → binding b ++ rest ≡ commas binding b vs
+unfolding commas
+context_items [] front e b rest is = ap (λ z. binding b ++ z) (is ∙ e)
+context_items (v ∷ vs) front (f1, f2, e, (r1, e1, (x, r2, e2, (r3, e3, (T, r4, e4, (e5, e6))))), all) b rest is =
+    let later : binding v ++ f2 ≡ commas binding v vs = context_items vs f2 all v f2 refl in
+    let item : f1 ≡ token (Sign symbol.Comma) ∷ binding v = rw (e1, e2, e3, e4, e6, e5) refl in
+    ap (λ z. binding b ++ z) (is ∙ e ∙ ap (λ z. z ++ f2) item) ∙ ap (λ z. binding b ++ token (Sign symbol.Comma) ∷ z) later
+
+-- a right side that a code reads is one of the phrase
+pub side_of : {s : Sort} (K : Kind s) (v : Tree s) (side : List Part) → Accepts (code K) v side → Side K v side
+unfolding code
+side_of AnyType t side (S, r1, e1, inl (r2, e2, (T, r3, e3, (e, e4)))) = rw (e1, e2, e3, e4, e) types.function
+side_of AnyType t side (S, r1, e1, inr (e, e2)) = rw (e1, e2, e) types.product_alone
+side_of ProductType t side (S, r1, e1, (T, r2, e2, (e, e3))) = rw (e1, e2, e3, e) types.product
+side_of (MoreFactors R) t side (inl (r1, e1, (S, r2, e2, (T, r3, e3, (e, e4))))) = rw (e1, e2, e3, e4, e) types.product_more
+side_of (MoreFactors R) t side (inr (e, e1)) = rw (e1, e) types.product_end
+side_of PrefixType t side (inl (r1, e1, (T, r2, e2, (e, e3)))) = rw (e1, e2, e3, e) types.power
+side_of PrefixType t side (inr (inl (x, r1, e1, (e, e2)))) = rw (e1, e2, e) types.functor
+side_of PrefixType t side (inr (inr (inl (r1, e1, (e, e2))))) = rw (e1, e2, e) types.one
+side_of PrefixType t side (inr (inr (inr (inl (r1, e1, (e, e2)))))) = rw (e1, e2, e) types.omega
+side_of PrefixType t side (inr (inr (inr (inr (r1, e1, (T, r2, e2, (r3, e3, (e, e4)))))))) = rw (e1, e2, e3, e4, e) types.group
+side_of AnyTerm t side (s, r1, e1, a) = rw e1 (any_term_side (ends_with_body s) s t r1 refl a)
+side_of Disjunction t side (s, r1, e1, (u, r2, e2, (e, e3))) = rw (e1, e2, e3, e) terms.disjunction
+side_of (MoreDisjuncts r) t side a = more_disjuncts_side (ends_with_body r) r t side refl a
+side_of Conjunction t side (s, r1, e1, (u, r2, e2, (e, e3))) = rw (e1, e2, e3, e) terms.conjunction
+side_of (MoreConjuncts r) t side a = more_conjuncts_side (ends_with_body r) r t side refl a
+side_of Negation t side (inl (r1, e1, (u, r2, e2, (e, e3)))) = rw (e1, e2, e3, e) terms.negation
+side_of Negation t side (inr (inl (u, r1, e1, (e, e2)))) = rw (e1, e2, e) terms.quantified
+side_of Negation t side (inr (inr (u, r1, e1, (e, e2)))) = rw (e1, e2, e) terms.compared
+side_of BinderTerm t side (inl a) = bound_side Forall t side a
+side_of BinderTerm t side (inr (inl a)) = bound_side Exists t side a
+side_of BinderTerm t side (inr (inr (inl a))) = bound_side Unique t side a
+side_of BinderTerm t side (inr (inr (inr a))) = bound_side Fun t side a
+side_of Comparison t side (s, r1, e1, inl (r2, e2, (u, r3, e3, (e, e4)))) = rw (e1, e2, e3, e4, e) terms.equal
+side_of Comparison t side (s, r1, e1, inr (inl (r2, e2, (u, r3, e3, (e, e4))))) = rw (e1, e2, e3, e4, e) terms.member
+side_of Comparison t side (s, r1, e1, inr (inr (e, e2))) = rw (e1, e2, e) terms.uncompared
+side_of Application t side (s, r1, e1, (u, r2, e2, (e, e3))) = rw (e1, e2, e3, e) terms.application
+side_of (MoreArguments r) t side (inl (s, r1, e1, (u, r2, e2, (e, e3)))) = rw (e1, e2, e3, e) terms.application_more
+side_of (MoreArguments r) t side (inr (e, e1)) = rw (e1, e) terms.application_end
+side_of Atom t side (inl (x, r1, e1, (e, e2))) = rw (e1, e2, e) terms.named
+side_of Atom t side (inr (inl (r1, e1, (e, e2)))) = rw (e1, e2, e) terms.truth
+side_of Atom t side (inr (inr (inl (r1, e1, (e, e2))))) = rw (e1, e2, e) terms.falsity
+side_of Atom t side (inr (inr (inr (inl (r1, e1, (x, r2, e2, (r3, e3, (T, r4, e4, (r5, e5, (u, r6, e6, (r7, e7, (e, e8))))))))))))  = rw (e1, e2, e3, e4, e5, e6, e7, e8, e) terms.subset
+side_of Atom t side (inr (inr (inr (inr (inl (r1, e1, (r2, e2, (u, r3, e3, (r4, e4, (e, e5)))))))))) = rw (e1, e2, e3, e4, e5, e) terms.first
+side_of Atom t side (inr (inr (inr (inr (inr (inl (r1, e1, (r2, e2, (u, r3, e3, (r4, e4, (e, e5))))))))))) = rw (e1, e2, e3, e4, e5, e) terms.second
+side_of Atom t side (inr (inr (inr (inr (inr (inr (u, r1, e1, (e, e2)))))))) = rw (e1, e2, e) terms.in_parentheses
+side_of Parentheses t side (r1, e1, inl (r2, e2, (e, e3))) = rw (e1, e2, e3, e) terms.unit
+side_of Parentheses t side (r1, e1, inr (s, r2, e2, inl (r3, e3, (u, r4, e4, (r5, e5, (e, e6)))))) = rw (e1, e2, e3, e4, e5, e6, e) terms.pair
+side_of Parentheses t side (r1, e1, inr (s, r2, e2, inr (r3, e3, (e, e4)))) = rw (e1, e2, e3, e4, e) terms.group
+side_of Context t side (inl (x, r1, e1, (r2, e2, (T, r3, e3, (vs, front, rest, e4, all, (e, e5)))))) =
+    let items : binding (record { variable = x; type = T }) ++ front ≡ commas binding (record { variable = x; type = T }) vs = context_items vs front all (record { variable = x; type = T }) front refl in
+    let whole : side ≡ commas binding (record { variable = x; type = T }) vs = rw (e1, e2, e3, e4, e5) (ap (λ z. binding (record { variable = x; type = T }) ++ z) (append-nil front) ∙ items) in
+    rw (whole, e) terms.variables
+side_of Context t side (inr (e, e1)) = rw (e1, e) terms.no_variable
+
+-- ---- the other way
+
+any_term_accepts : (b : Bool) (s : TermTree) → Accepts (after_disjunction b s) s []
+any_term_accepts true s = (refl, refl)
+any_term_accepts false s = inr (refl, refl)
+
+implication_accepts : (b : Bool) (s t : TermTree) → b ≡ false → Accepts (after_disjunction b s) (tree.Implies s t) (token (Sign symbol.Implies) ∷ term (phrase.AnyTerm t) ∷ [])
+implication_accepts true s t is = absurd cc
+implication_accepts false s t is = inl (_, refl, (t, _, refl, (refl, refl)))
+
+disjuncts_end : (b : Bool) (r : TermTree) → Accepts (more_disjuncts b r) r []
+disjuncts_end true r = (refl, refl)
+disjuncts_end false r = inr (refl, refl)
+
+disjuncts_more : (b : Bool) (r s t : TermTree) → b ≡ false → Accepts (more_disjuncts b r) t (token (Reserved word.Or) ∷ term (phrase.Conjunction s) ∷ term (phrase.MoreDisjuncts (tree.Or r s) t) ∷ [])
+disjuncts_more true r s t is = absurd cc
+disjuncts_more false r s t is = inl (_, refl, (s, _, refl, (t, _, refl, (refl, refl))))
+
+conjuncts_end : (b : Bool) (r : TermTree) → Accepts (more_conjuncts b r) r []
+conjuncts_end true r = (refl, refl)
+conjuncts_end false r = inr (refl, refl)
+
+conjuncts_more : (b : Bool) (r s t : TermTree) → b ≡ false → Accepts (more_conjuncts b r) t (token (Reserved word.And) ∷ term (phrase.Negation s) ∷ term (phrase.MoreConjuncts (tree.And r s) t) ∷ [])
+conjuncts_more true r s t is = absurd cc
+conjuncts_more false r s t is = inl (_, refl, (s, _, refl, (t, _, refl, (refl, refl))))
+
+bound_accepts : (b : Binder) (x : Binding) (t : TermTree) → Accepts (bound b) (tree.Bound b x t) (token (Reserved (binder_word b)) ∷ token (Name x.variable) ∷ token (Sign symbol.Colon) ∷ type (phrase.AnyType x.type) ∷ token (Sign symbol.Dot) ∷ term (phrase.AnyTerm t) ∷ [])
+bound_accepts b x t = (_, refl, (x.variable, _, refl, (_, refl, (x.type, _, refl, (_, refl, (t, _, refl, (refl, refl)))))))
+
+-- the items of a context behind the first, with their commas
+abbrev later_items : List Binding → List Part
+later_items [] = []
+later_items (v ∷ vs) = (token (Sign symbol.Comma) ∷ binding v) ++ later_items vs
+
+later_accepted : (vs : List Binding) → All (λ v z. Accepts {s = OfBinding} (eat_sign symbol.Comma (bind (λ c. give c))) v z) vs (later_items vs)
+later_accepted [] = refl
+later_accepted (v ∷ vs) = (token (Sign symbol.Comma) ∷ binding v, later_items vs, refl, (_, refl, (v.variable, _, refl, (_, refl, (v.type, _, refl, (refl, refl))))), later_accepted vs)
+
+later_commas : (b : Binding) (vs : List Binding) → commas binding b vs ≡ binding b ++ later_items vs
+unfolding commas
+later_commas b [] = refl
+later_commas b (v ∷ vs) = ap (λ z. binding b ++ token (Sign symbol.Comma) ∷ z) (later_commas v vs)
+
+context_accepts : (b : Binding) (vs : List Binding) → Accepts (code Context) (b ∷ vs) (commas binding b vs)
+unfolding code
+context_accepts b vs = subst (λ z. Accepts (code Context) (b ∷ vs) z) (ap (λ z. binding b ++ z) (append-nil (later_items vs)) ∙ sym (later_commas b vs))
+    (inl (b.variable, _, refl, (_, refl, (b.type, _, refl, (vs, later_items vs, [], refl, later_accepted vs, (refl, refl))))))
+
+-- each right side of the phrase is read by its code
+pub accepts_side : {s : Sort} (K : Kind s) (v : Tree s) (side : List Part) → Side K v side → Accepts (code K) v side
+unfolding code
+accepts_side AnyType t side types.product_alone = (t, _, refl, inr (refl, refl))
+accepts_side AnyType t side (types.function {S = S} {T = T}) = (S, _, refl, inl (_, refl, (T, _, refl, (refl, refl))))
+accepts_side ProductType t side (types.product {S = S}) = (S, _, refl, (t, _, refl, (refl, refl)))
+accepts_side (MoreFactors R) t side types.product_end = inr (refl, refl)
+accepts_side (MoreFactors R) t side (types.product_more {S = S}) = inl (_, refl, (S, _, refl, (t, _, refl, (refl, refl))))
+accepts_side PrefixType t side (types.power {T = T}) = inl (_, refl, (T, _, refl, (refl, refl)))
+accepts_side PrefixType t side (types.functor {x = x}) = inr (inl (x, _, refl, (refl, refl)))
+accepts_side PrefixType t side types.one = inr (inr (inl (_, refl, (refl, refl))))
+accepts_side PrefixType t side types.omega = inr (inr (inr (inl (_, refl, (refl, refl)))))
+accepts_side PrefixType t side types.group = inr (inr (inr (inr (_, refl, (t, _, refl, (_, refl, (refl, refl)))))))
+accepts_side AnyTerm t side terms.alone = (t, _, refl, any_term_accepts (ends_with_body t) t)
+accepts_side AnyTerm t side (terms.implication {s = s} {t = u} is) = (s, _, refl, implication_accepts (ends_with_body s) s u is)
+accepts_side Disjunction t side (terms.disjunction {s = s}) = (s, _, refl, (t, _, refl, (refl, refl)))
+accepts_side (MoreDisjuncts r) t side terms.disjunction_end = disjuncts_end (ends_with_body r) r
+accepts_side (MoreDisjuncts r) t side (terms.disjunction_more {s = s} is) = disjuncts_more (ends_with_body r) r s t is
+accepts_side Conjunction t side (terms.conjunction {s = s}) = (s, _, refl, (t, _, refl, (refl, refl)))
+accepts_side (MoreConjuncts r) t side terms.conjunction_end = conjuncts_end (ends_with_body r) r
+accepts_side (MoreConjuncts r) t side (terms.conjunction_more {s = s} is) = conjuncts_more (ends_with_body r) r s t is
+accepts_side Negation t side (terms.negation {t = u}) = inl (_, refl, (u, _, refl, (refl, refl)))
+accepts_side Negation t side terms.quantified = inr (inl (t, _, refl, (refl, refl)))
+accepts_side Negation t side terms.compared = inr (inr (t, _, refl, (refl, refl)))
+accepts_side BinderTerm t side (terms.bound {binder = Forall} {b = x} {t = u}) = inl (bound_accepts Forall x u)
+accepts_side BinderTerm t side (terms.bound {binder = Exists} {b = x} {t = u}) = inr (inl (bound_accepts Exists x u))
+accepts_side BinderTerm t side (terms.bound {binder = Unique} {b = x} {t = u}) = inr (inr (inl (bound_accepts Unique x u)))
+accepts_side BinderTerm t side (terms.bound {binder = Fun} {b = x} {t = u}) = inr (inr (inr (bound_accepts Fun x u)))
+accepts_side Comparison t side terms.uncompared = (t, _, refl, inr (inr (refl, refl)))
+accepts_side Comparison t side (terms.equal {s = s} {t = u}) = (s, _, refl, inl (_, refl, (u, _, refl, (refl, refl))))
+accepts_side Comparison t side (terms.member {s = s} {t = u}) = (s, _, refl, inr (inl (_, refl, (u, _, refl, (refl, refl)))))
+accepts_side Application t side (terms.application {s = s}) = (s, _, refl, (t, _, refl, (refl, refl)))
+accepts_side (MoreArguments r) t side terms.application_end = inr (refl, refl)
+accepts_side (MoreArguments r) t side (terms.application_more {s = s}) = inl (s, _, refl, (t, _, refl, (refl, refl)))
+accepts_side Atom t side (terms.named {x = x}) = inl (x, _, refl, (refl, refl))
+accepts_side Atom t side terms.truth = inr (inl (_, refl, (refl, refl)))
+accepts_side Atom t side terms.falsity = inr (inr (inl (_, refl, (refl, refl))))
+accepts_side Atom t side (terms.subset {b = b} {t = u}) = inr (inr (inr (inl (_, refl, (b.variable, _, refl, (_, refl, (b.type, _, refl, (_, refl, (u, _, refl, (_, refl, (refl, refl)))))))))))
+accepts_side Atom t side (terms.first {t = u}) = inr (inr (inr (inr (inl (_, refl, (_, refl, (u, _, refl, (_, refl, (refl, refl)))))))))
+accepts_side Atom t side (terms.second {t = u}) = inr (inr (inr (inr (inr (inl (_, refl, (_, refl, (u, _, refl, (_, refl, (refl, refl))))))))))
+accepts_side Atom t side terms.in_parentheses = inr (inr (inr (inr (inr (inr (t, _, refl, (refl, refl)))))))
+accepts_side Parentheses t side terms.unit = (_, refl, inl (_, refl, (refl, refl)))
+accepts_side Parentheses t side (terms.group {t = u}) = (_, refl, inr (u, _, refl, inr (_, refl, (refl, refl))))
+accepts_side Parentheses t side (terms.pair {s = s} {t = u}) = (_, refl, inr (s, _, refl, inl (_, refl, (u, _, refl, (_, refl, (refl, refl))))))
+accepts_side Context t side terms.no_variable = inr (refl, refl)
+accepts_side Context t side (terms.variables {b = b} {bs = bs}) = context_accepts b bs
+
+-- ---- a phrase of each kind
+
+one_prefix : Derives (type (phrase.PrefixType tree.One) ∷ []) (Reserved word.One ∷ [])
+one_prefix = whole_type types.one (this nothing)
+
+one_type : Derives (type (phrase.ProductType tree.One) ∷ []) (Reserved word.One ∷ [])
+one_type = whole_type types.product (by_type types.one (this nothing) (whole_type types.product_end nothing))
+
+true_application : Derives (term (phrase.Application tree.Truth) ∷ []) (Reserved word.True ∷ [])
+true_application = whole_term terms.application (by_term terms.truth (this nothing) (whole_term terms.application_end nothing))
+
+true_comparison : Derives (term (phrase.Comparison tree.Truth) ∷ []) (Reserved word.True ∷ [])
+true_comparison = whole_term terms.uncompared true_application
+
+true_negation : Derives (term (phrase.Negation tree.Truth) ∷ []) (Reserved word.True ∷ [])
+true_negation = whole_term terms.compared true_comparison
+
+true_conjunction : Derives (term (phrase.Conjunction tree.Truth) ∷ []) (Reserved word.True ∷ [])
+true_conjunction = whole_term terms.conjunction (by_term terms.compared true_comparison (whole_term terms.conjunction_end nothing))
+
+true_disjunction : Derives (term (phrase.Disjunction tree.Truth) ∷ []) (Reserved word.True ∷ [])
+true_disjunction = whole_term terms.disjunction (by_term terms.conjunction (by_term terms.compared true_comparison (whole_term terms.conjunction_end nothing)) (whole_term terms.disjunction_end nothing))
+
+true_term : Derives (term (phrase.AnyTerm tree.Truth) ∷ []) (Reserved word.True ∷ [])
+true_term = whole_term terms.alone true_disjunction
+
+some_name : Written
+some_name = record { text = []; token = 0 }
+
+true_bound : Derives (term (phrase.BinderTerm (tree.Bound Forall (record { variable = some_name; type = tree.One }) tree.Truth)) ∷ []) (Reserved word.Forall ∷ Name some_name ∷ Sign symbol.Colon ∷ Reserved word.One ∷ Sign symbol.Dot ∷ Reserved word.True ∷ [])
+true_bound = whole_term terms.bound (this (this (this (by_type types.product_alone one_type (this true_term)))))
+
+pub sample : {s : Sort} (K : Kind s) → (v : Tree s) × (xs : List Token) × Derives (part K v ∷ []) xs
+sample AnyType = (tree.One, _, whole_type types.product_alone one_type)
+sample ProductType = (tree.One, _, one_type)
+sample (MoreFactors R) = (R, _, whole_type types.product_end nothing)
+sample PrefixType = (tree.One, _, one_prefix)
+sample AnyTerm = (tree.Truth, _, true_term)
+sample Disjunction = (tree.Truth, _, true_disjunction)
+sample (MoreDisjuncts r) = (r, _, whole_term terms.disjunction_end nothing)
+sample Conjunction = (tree.Truth, _, true_conjunction)
+sample (MoreConjuncts r) = (r, _, whole_term terms.conjunction_end nothing)
+sample Negation = (tree.Truth, _, true_negation)
+sample BinderTerm = (_, _, true_bound)
+sample Comparison = (tree.Truth, _, true_comparison)
+sample Application = (tree.Truth, _, true_application)
+sample (MoreArguments r) = (r, _, whole_term terms.application_end nothing)
+sample Atom = (tree.Truth, _, whole_term terms.truth (this nothing))
+sample Parentheses = (tree.Unit, _, whole_term terms.unit (this (this nothing)))
+sample Context = ([], _, whole_term terms.no_variable nothing)

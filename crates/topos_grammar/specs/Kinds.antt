@@ -1,0 +1,80 @@
+-- The kinds of phrases, without their trees.
+use Rattle.std.specs.Prelude.{List}
+use Rattle.topos_text.specs.Trees.{TypeTree, TermTree, Binding}
+use Rattle.topos_text.specs.Phrases.{Part, type, term}
+use Rattle.topos_text.specs.Phrases as phrase
+use Rattle.topos_text.specs.Types.{TypeSide}
+use Rattle.topos_text.specs.Terms.{TermSide}
+
+-- what the trees of a phrase are
+pub data Sort : Type 0 where
+  OfType : Sort
+  OfTerm : Sort
+  OfContext : Sort
+  OfBinding : Sort
+
+abbrev pub Tree : Sort → Type 0
+Tree OfType = TypeTree
+Tree OfTerm = TermTree
+Tree OfContext = List Binding
+Tree OfBinding = Binding
+
+-- A kind of phrases. One that goes on from a tree has that tree.
+pub data Kind : Sort → Type 0 where
+  AnyType : Kind OfType
+  ProductType : Kind OfType
+  MoreFactors : TypeTree → Kind OfType
+  PrefixType : Kind OfType
+  AnyTerm : Kind OfTerm
+  Disjunction : Kind OfTerm
+  MoreDisjuncts : TermTree → Kind OfTerm
+  Conjunction : Kind OfTerm
+  MoreConjuncts : TermTree → Kind OfTerm
+  Negation : Kind OfTerm
+  BinderTerm : Kind OfTerm
+  Comparison : Kind OfTerm
+  Application : Kind OfTerm
+  MoreArguments : TermTree → Kind OfTerm
+  Atom : Kind OfTerm
+  Parentheses : Kind OfTerm
+  Context : Kind OfContext
+
+-- the phrase of the kind with the tree
+abbrev pub part : {s : Sort} → Kind s → Tree s → Part
+part AnyType t = type (phrase.AnyType t)
+part ProductType t = type (phrase.ProductType t)
+part (MoreFactors r) t = type (phrase.MoreFactors r t)
+part PrefixType t = type (phrase.PrefixType t)
+part AnyTerm t = term (phrase.AnyTerm t)
+part Disjunction t = term (phrase.Disjunction t)
+part (MoreDisjuncts r) t = term (phrase.MoreDisjuncts r t)
+part Conjunction t = term (phrase.Conjunction t)
+part (MoreConjuncts r) t = term (phrase.MoreConjuncts r t)
+part Negation t = term (phrase.Negation t)
+part BinderTerm t = term (phrase.BinderTerm t)
+part Comparison t = term (phrase.Comparison t)
+part Application t = term (phrase.Application t)
+part (MoreArguments r) t = term (phrase.MoreArguments r t)
+part Atom t = term (phrase.Atom t)
+part Parentheses t = term (phrase.Parentheses t)
+part Context t = term (phrase.Context t)
+
+-- a right side of that phrase
+abbrev pub Side : {s : Sort} → Kind s → Tree s → List Part → Type 0
+Side AnyType t side = TypeSide (phrase.AnyType t) side
+Side ProductType t side = TypeSide (phrase.ProductType t) side
+Side (MoreFactors r) t side = TypeSide (phrase.MoreFactors r t) side
+Side PrefixType t side = TypeSide (phrase.PrefixType t) side
+Side AnyTerm t side = TermSide (phrase.AnyTerm t) side
+Side Disjunction t side = TermSide (phrase.Disjunction t) side
+Side (MoreDisjuncts r) t side = TermSide (phrase.MoreDisjuncts r t) side
+Side Conjunction t side = TermSide (phrase.Conjunction t) side
+Side (MoreConjuncts r) t side = TermSide (phrase.MoreConjuncts r t) side
+Side Negation t side = TermSide (phrase.Negation t) side
+Side BinderTerm t side = TermSide (phrase.BinderTerm t) side
+Side Comparison t side = TermSide (phrase.Comparison t) side
+Side Application t side = TermSide (phrase.Application t) side
+Side (MoreArguments r) t side = TermSide (phrase.MoreArguments r t) side
+Side Atom t side = TermSide (phrase.Atom t) side
+Side Parentheses t side = TermSide (phrase.Parentheses t) side
+Side Context t side = TermSide (phrase.Context t) side

@@ -1,0 +1,11 @@
+//! Types and terms from tokens, by the grammar: the tree that the tokens are, or the first token with which no tree goes on.
+#![tactic(auto)]
+
+mod heads;
+mod stop;
+mod tree;
+mod types;
+
+pub use stop::Stop;
+pub use tree::{Binder, Binding, TermTree, TypeTree};
+pub use types::any_type;
