@@ -1,5 +1,5 @@
 -- Which right sides a code reads, and derivations over kinds.
-use Rattle.std.proofs.Common.{◌≡◌, ◌⊎◌, inl, inr, ℕ, zero, suc, ◌+◌, ◌≤◌, ◌<◌, List, [], ◌∷◌, ◌++◌, refl, sym, ap, subst, ◌∙◌, arith, append_assoc}
+use Rattle.std.proofs.Common.{◌≡◌, ◌⊎◌, ℕ, zero, suc, ◌+◌, ◌≤◌, List, [], ◌∷◌, ◌++◌, refl, sym, ap, ◌∙◌, arith, append_assoc}
 use Rattle.topos_text.specs.Tokens.{Token, Written, Name}
 use Rattle.topos_text.specs.Phrases.{Part, token, type, term, site, statement}
 use Rattle.topos_text.specs.Phrases as phrase
@@ -7,7 +7,7 @@ use Rattle.topos_text.specs.Types.{TypeSide}
 use Rattle.topos_text.specs.Terms.{TermSide}
 use Rattle.topos_text.specs.Documents.{Derives, nothing, this, by_type, by_term, by_site, by_statement}
 use Rattle.topos_grammar.specs.Kinds.{Sort, Tree, Kind, AnyType, ProductType, MoreFactors, PrefixType, AnyTerm, Disjunction, MoreDisjuncts, Conjunction, MoreConjuncts, Negation, BinderTerm, Comparison, Application, MoreArguments, Atom, Parentheses, Context, part, Side}
-use Rattle.topos_grammar.specs.Codes.{Class, Code, give, eat, name, call, peek, loop, code}
+use Rattle.topos_grammar.specs.Codes.{Code, give, eat, name, call, peek, loop}
 
 -- the parts are those of the items, one behind the other
 abbrev pub All : {A : Type 0} → (A → List Part → Type 0) → List A → List Part → Type 0

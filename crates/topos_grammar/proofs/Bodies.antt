@@ -1,13 +1,11 @@
 -- What does not stand behind a term that ends with the body of a binder, once it is read.
-use Rattle.std.proofs.Common.{◌≡◌, ◌⊎◌, inl, inr, Bool, true, false, List, [], ◌∷◌, refl, sym, subst}
+use Rattle.std.proofs.Common.{◌≡◌, Bool, true, false, List, [], ◌∷◌, refl}
 use Rattle.topos_text.specs.declared.word.Word.TheVariants as word
-use Rattle.topos_text.specs.declared.symbol.Symbol.TheVariants as symbol
 use Rattle.topos_text.specs.Tokens.{Token, Written}
 use Rattle.topos_text.specs.Trees.{TermTree, Binder, Forall, Exists, Unique, Fun}
-use Rattle.topos_text.specs.Trees as tree
 use Rattle.topos_text.specs.Terms.{ends_with_body}
 use Rattle.topos_grammar.specs.Kinds.{Sort, Tree, Kind, AnyType, ProductType, MoreFactors, PrefixType, AnyTerm, Disjunction, MoreDisjuncts, Conjunction, MoreConjuncts, Negation, BinderTerm, Comparison, Application, MoreArguments, Atom, Parentheses, Context}
-use Rattle.topos_grammar.specs.Codes.{Class, Is, the, sign, Code, give, eat, name, call, peek, loop, code, bound}
+use Rattle.topos_grammar.specs.Codes.{Is, the, Code, give, eat, name, call, peek, loop, code, bound}
 use Rattle.topos_grammar.specs.Reading.{Read, Whole, Stops, Reading, gives, eats, eats_not, names, names_not, calls, calls_not, peeks, peeks_not, loops, loops_not, loops_end, Closed, Ready}
 use Rattle.topos_grammar.proofs.Sides.{more_disjuncts, more_conjuncts, after_disjunction}
 
@@ -72,9 +70,19 @@ post_of BinderTerm = (bound_post Forall, (bound_post Exists, (bound_post Unique,
 post_of Comparison = ((λ ts h. tt), λ s. (((λ ts h. tt), λ t ts h. refl), (((λ ts h. tt), λ t ts h. refl), λ ts h. h.0.0)))
 post_of Application = ((λ ts h. tt), λ s. ((λ ts h. h), λ t ts h. h))
 post_of (MoreArguments r) = (((λ ts h. tt), λ s. ((λ ts h. refl), λ t ts h. h)), λ ts h. h.0)
-post_of Atom =
-    ((λ x ts h. refl), ((λ ts h. refl), ((λ ts h. refl), ((λ x. ((λ ts h. tt), λ T. ((λ ts h. tt), λ t ts h. refl))),
-    (((λ ts h. tt), λ t ts h. refl), (((λ ts h. tt), λ t ts h. refl), ((λ ts h. tt), λ t ts h. h)))))))
+post_of Atom = (
+  (λ x ts h. refl),
+  (
+    (λ ts h. refl),
+    (
+      (λ ts h. refl),
+      (
+        (λ x. ((λ ts h. tt), λ T. ((λ ts h. tt), λ t ts h. refl))),
+        (((λ ts h. tt), λ t ts h. refl), (((λ ts h. tt), λ t ts h. refl), ((λ ts h. tt), λ t ts h. h))),
+      ),
+    ),
+  ),
+)
 post_of Parentheses = ((λ ts h. refl), ((λ ts h. tt), λ s. (((λ ts h. tt), λ t ts h. refl), λ ts h. refl)))
 post_of Context = ((λ x. ((λ ts h. tt), λ T vs ts h. tt)), λ ts h. tt)
 

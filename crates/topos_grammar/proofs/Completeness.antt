@@ -2,58 +2,19 @@
 use Rattle.std.proofs.Common.{◌≡◌, ◌⊎◌, inl, inr, ℕ, zero, suc, ◌<◌, ◌≤◌, Bool, true, false, List, [], ◌∷◌, ◌++◌, refl, sym, ap, subst, ◌∙◌, arith, append_assoc}
 use Rattle.topos_text.specs.declared.word.Word.TheVariants as word
 use Rattle.topos_text.specs.declared.symbol.Symbol.TheVariants as symbol
-use Rattle.topos_text.specs.Tokens.{Token, Written, Name, Place, Reserved, Sign}
+use Rattle.topos_text.specs.Tokens.{Token, Written, Name, Reserved, Sign}
 use Rattle.topos_text.specs.Trees.{TypeTree, TermTree, Binding, Binder, Forall, Exists, Unique, Fun}
 use Rattle.topos_text.specs.Trees as tree
 use Rattle.topos_text.specs.Phrases.{Part, token}
 use Rattle.topos_text.specs.Terms.{ends_with_body}
 use Rattle.topos_text.specs.Documents.{Derives}
 use Rattle.topos_grammar.specs.Kinds.{Sort, OfBinding, OfContext, Tree, Kind, AnyType, ProductType, MoreFactors, PrefixType, AnyTerm, Disjunction, MoreDisjuncts, Conjunction, MoreConjuncts, Negation, BinderTerm, Comparison, Application, MoreArguments, Atom, Parentheses, Context, part, Side}
-use Rattle.topos_grammar.specs.Codes.{Class, This, AnyName, Either, Is, the, sign, binders, Code, give, eat, name, call, peek, loop, code, bound, bind, eat_sign}
-use Rattle.topos_grammar.specs.Reading.{Read, Whole, Stops, Reading, gives, eats, names, calls, peeks, peeks_not, loops, loops_end}
-use Rattle.topos_grammar.proofs.Accepting.{Accepts, All, Sized, Undone, undone, Taken, taken, none, Cut, cut_at, size}
+use Rattle.topos_grammar.specs.Codes.{Class, This, Is, the, sign, binders, Code, give, eat, name, call, peek, loop, code, bound, bind, eat_sign}
+use Rattle.topos_grammar.specs.Follows.{type_level, level, limit, Follow}
+use Rattle.topos_grammar.specs.Reading.{Whole, Reading, gives, eats, names, calls, peeks, peeks_not, loops, loops_end}
+use Rattle.topos_grammar.proofs.Accepting.{Accepts, All, Sized, undone, taken, none, cut_at, size}
 use Rattle.topos_grammar.proofs.Sides.{accepts_side, more_disjuncts, more_conjuncts, after_disjunction}
-use Rattle.topos_grammar.proofs.Fronts.{begins_type, begins_atom, BeginsTerm, Heads, Empty, Leads, sized_by, leads_to, leads_always}
-
--- how loosely the token in front binds
-abbrev pub type_level : List Token → ℕ
-type_level (Sign symbol.Star ∷ ts) = 1
-type_level (Sign symbol.Arrow ∷ ts) = 2
-type_level _ = 3
-
-abbrev pub level : List Token → ℕ
-level (Sign symbol.OpenParenthesis ∷ ts) = 1
-level (Sign symbol.Equals ∷ ts) = 2
-level (Reserved word.In ∷ ts) = 2
-level (Reserved word.And ∷ ts) = 3
-level (Reserved word.Or ∷ ts) = 4
-level (Sign symbol.Implies ∷ ts) = 5
-level _ = 6
-
--- the level up to which a token behind the phrase would go on with it, also where it ends with a body
-abbrev pub limit : ℕ → Bool → ℕ
-limit n true = 5
-limit n false = n
-
--- the tokens may stand behind a phrase of the kind with the tree
-abbrev pub Follow : {s : Sort} → Kind s → Tree s → List Token → Type 0
-Follow AnyType t ts = 2 < type_level ts
-Follow ProductType t ts = 1 < type_level ts
-Follow (MoreFactors R) t ts = 1 < type_level ts
-Follow PrefixType t ts = Unit {0}
-Follow AnyTerm t ts = 5 < level ts
-Follow Disjunction t ts = limit 4 (ends_with_body t) < level ts
-Follow (MoreDisjuncts r) t ts = limit 4 (ends_with_body t) < level ts
-Follow Conjunction t ts = limit 3 (ends_with_body t) < level ts
-Follow (MoreConjuncts r) t ts = limit 3 (ends_with_body t) < level ts
-Follow Negation t ts = limit 2 (ends_with_body t) < level ts
-Follow BinderTerm t ts = limit 2 (ends_with_body t) < level ts
-Follow Comparison t ts = 2 < level ts
-Follow Application t ts = 1 < level ts
-Follow (MoreArguments r) t ts = 1 < level ts
-Follow Atom t ts = Unit {0}
-Follow Parentheses t ts = Unit {0}
-Follow Context t ts = Is (sign symbol.Bar) ts
+use Rattle.topos_grammar.proofs.Fronts.{begins_atom, BeginsTerm, Leads, sized_by, leads_to, leads_always}
 
 -- what may stand behind a loop
 abbrev pub Ends : {A : Type 0} {s : Sort} → (A → Code s) → (Tree s → List Token → Type 0) → List Token → Type 0
@@ -136,8 +97,10 @@ bar_type ts (us, e) = subst (λ z. 2 < type_level z) (sym e) (omega arith)
 
 any_term_fits : (b : Bool) (s : TermTree) → ends_with_body s ≡ b → Fits (after_disjunction b s) (Follow AnyTerm) × Leads (after_disjunction b s) (Follow Disjunction s) (λ t. (ys : List Token) → 5 < level ys → Follow Disjunction s ys)
 any_term_fits true s is = (tt, λ ys h. omega (arith, h, limit_most 4 (ends_with_body s) (omega arith)))
-any_term_fits false s is = (((λ t. (tt, λ ys h. h)), tt, λ ts. (ts, refl), λ ys h is. not_level 5 5 (Sign symbol.Implies) ys h is (λ ts. refl) (omega arith)),
-    (λ ts. goes_on 4 5 (Sign symbol.Implies) s (Sign symbol.Implies ∷ ts) (is, (ts, refl)) (λ us. refl) (omega arith), λ ys h. omega (arith, h, limit_most 4 (ends_with_body s) (omega arith))))
+any_term_fits false s is = (
+  ((λ t. (tt, λ ys h. h)), tt, λ ts. (ts, refl), λ ys h is. not_level 5 5 (Sign symbol.Implies) ys h is (λ ts. refl) (omega arith)),
+  (λ ts. goes_on 4 5 (Sign symbol.Implies) s (Sign symbol.Implies ∷ ts) (is, (ts, refl)) (λ us. refl) (omega arith), λ ys h. omega (arith, h, limit_most 4 (ends_with_body s) (omega arith))),
+)
 
 more_disjuncts_fits : (b : Bool) (r : TermTree) → Fits (more_disjuncts b r) (λ t ts. limit 4 (ends_with_body t) < level ts)
 unfolding ends_with_body
@@ -165,55 +128,93 @@ unfolding code ends_with_body
 fits_of AnyType = λ S. (((λ T. (tt, λ ys h. h)), tt, λ ts. (ts, refl), λ ys h is. not_type 2 2 (Sign symbol.Arrow) ys h is (λ ts. refl) (omega arith)), (λ ts. omega arith, λ ys h. omega (arith, h)))
 fits_of ProductType = λ S. ((λ t. (tt, λ ys h. h)), (λ ts h. tt, λ v e ys h. tt))
 fits_of (MoreFactors R) = ((λ S. ((λ t. (tt, λ ys h. h)), (λ ts h. tt, λ v e ys h. tt))), tt, λ ts. (ts, refl), λ ys h is. not_type 1 1 (Sign symbol.Star) ys h is (λ ts. refl) (omega arith))
-fits_of PrefixType =
-    ((λ T. (tt, λ ys h. tt)),
-     ((λ x. tt),
-      (tt,
-       (tt, (λ T. (tt, λ ts. omega arith)), λ ts. (ts, refl), λ ts is. cc),
-       λ ts. (ts, refl), (λ ts is. cc, λ ts is. cc)),
-      λ x ts. (x, ts, refl), (λ ts is. cc, (λ ts is. cc, λ ts is. cc))),
-     λ ts. (ts, refl), (λ x ts is. cc, (λ ts is. cc, (λ ts is. cc, λ ts is. cc))))
+fits_of PrefixType = (
+  (λ T. (tt, λ ys h. tt)),
+  (
+    (λ x. tt),
+    (
+      tt,
+      (tt, (λ T. (tt, λ ts. omega arith)), λ ts. (ts, refl), λ ts is. cc),
+      λ ts. (ts, refl),
+      (λ ts is. cc, λ ts is. cc),
+    ),
+    λ x ts. (x, ts, refl),
+    (λ ts is. cc, (λ ts is. cc, λ ts is. cc)),
+  ),
+  λ ts. (ts, refl),
+  (λ x ts is. cc, (λ ts is. cc, (λ ts is. cc, λ ts is. cc))),
+)
 fits_of AnyTerm = λ s. any_term_fits (ends_with_body s) s refl
 fits_of Disjunction = λ s. ((λ t. (tt, λ ys h. h)), (λ ts h. goes_on 3 4 (Reserved word.Or) s ts h (λ us. refl) (omega arith), λ v e ys h. ends_list 3 4 s v ys e (omega arith) h))
 fits_of (MoreDisjuncts r) = more_disjuncts_fits (ends_with_body r) r
 fits_of Conjunction = λ s. ((λ t. (tt, λ ys h. h)), (λ ts h. goes_on 2 3 (Reserved word.And) s ts h (λ us. refl) (omega arith), λ v e ys h. ends_list 2 3 s v ys e (omega arith) h))
 fits_of (MoreConjuncts r) = more_conjuncts_fits (ends_with_body r) r
-fits_of Negation =
-    ((λ t. (tt, λ ys h. h)),
-     ((λ t. (tt, λ ys h. h)), (λ t. (tt, λ ys h. omega (arith, h, limit_least 2 (ends_with_body t) (omega arith)))), (λ ts h. h, λ v e. absurd e), (λ ts h. atom_not_binder ts h, λ v e. absurd e)),
-     λ ts. (ts, refl), ((λ ts h. binder_not_not ts h, λ v e. absurd e), (λ ts h. atom_not_not ts h, λ v e. absurd e)))
-fits_of BinderTerm =
-    (bound_fits Forall,
-     (bound_fits Exists,
-      (bound_fits Unique, bound_fits Fun, λ ts. (ts, refl), λ ts is. cc),
-      λ ts. (ts, refl), (λ ts is. cc, λ ts is. cc)),
-     λ ts. (ts, refl), (λ ts is. cc, (λ ts is. cc, λ ts is. cc)))
-fits_of Comparison = λ s.
-    (((λ t. (tt, λ ys h. omega (arith, h))),
-      ((λ t. (tt, λ ys h. omega (arith, h))), tt, λ ts. (ts, refl), λ ys h is. not_level 2 2 (Reserved word.In) ys h is (λ ts. refl) (omega arith)),
-      λ ts. (ts, refl), (λ ts is. cc, λ ys h is. not_level 2 2 (Sign symbol.Equals) ys h is (λ ts. refl) (omega arith))),
-     (λ ts. omega arith, (λ ts. omega arith, λ ys h. omega (arith, h))))
+fits_of Negation = (
+  (λ t. (tt, λ ys h. h)),
+  ((λ t. (tt, λ ys h. h)), (λ t. (tt, λ ys h. omega (arith, h, limit_least 2 (ends_with_body t) (omega arith)))), (λ ts h. h, λ v e. absurd e), (λ ts h. atom_not_binder ts h, λ v e. absurd e)),
+  λ ts. (ts, refl),
+  ((λ ts h. binder_not_not ts h, λ v e. absurd e), (λ ts h. atom_not_not ts h, λ v e. absurd e)),
+)
+fits_of BinderTerm = (
+  bound_fits Forall,
+  (
+    bound_fits Exists,
+    (bound_fits Unique, bound_fits Fun, λ ts. (ts, refl), λ ts is. cc),
+    λ ts. (ts, refl),
+    (λ ts is. cc, λ ts is. cc),
+  ),
+  λ ts. (ts, refl),
+  (λ ts is. cc, (λ ts is. cc, λ ts is. cc)),
+)
+fits_of Comparison = λ s. (
+  (
+    (λ t. (tt, λ ys h. omega (arith, h))),
+    ((λ t. (tt, λ ys h. omega (arith, h))), tt, λ ts. (ts, refl), λ ys h is. not_level 2 2 (Reserved word.In) ys h is (λ ts. refl) (omega arith)),
+    λ ts. (ts, refl),
+    (λ ts is. cc, λ ys h is. not_level 2 2 (Sign symbol.Equals) ys h is (λ ts. refl) (omega arith)),
+  ),
+  (λ ts. omega arith, (λ ts. omega arith, λ ys h. omega (arith, h))),
+)
 fits_of Application = λ s. ((λ t. (tt, λ ys h. h)), (λ ts h. tt, λ v e ys h. tt))
 fits_of (MoreArguments r) = ((λ s. ((λ t. (tt, λ ys h. h)), (λ ts h. tt, λ v e ys h. tt))), tt, (λ ts h. h, λ v e. absurd e), λ ys h is. not_level 1 1 (Sign symbol.OpenParenthesis) ys h is (λ ts. refl) (omega arith))
-fits_of Atom =
-    ((λ x. tt),
-     (tt,
-      (tt,
-       ((λ x T. ((λ t. (tt, λ ts. omega arith)), λ ts. omega arith)),
-        ((λ t. (tt, λ ts. omega arith)),
-         ((λ t. (tt, λ ts. omega arith)), (λ t. (tt, λ ys h. tt)), λ ts. (ts, refl), (λ ts h is. cc, λ v e. absurd e)),
-         λ ts. (ts, refl), (λ ts is. cc, (λ ts h is. cc, λ v e. absurd e))),
-        λ ts. (ts, refl), (λ ts is. cc, (λ ts is. cc, (λ ts h is. cc, λ v e. absurd e)))),
-       λ ts. (ts, refl), (λ ts is. cc, (λ ts is. cc, (λ ts is. cc, (λ ts h is. cc, λ v e. absurd e))))),
-      λ ts. (ts, refl), (λ ts is. cc, (λ ts is. cc, (λ ts is. cc, (λ ts is. cc, (λ ts h is. cc, λ v e. absurd e)))))),
-     λ x ts. (x, ts, refl), (λ ts is. cc, (λ ts is. cc, (λ ts is. cc, (λ ts is. cc, (λ ts is. cc, (λ ts h is. cc, λ v e. absurd e)))))))
-fits_of Parentheses =
-    (tt,
-     (λ s. (((λ t. (tt, λ ts. omega arith)), tt, λ ts. (ts, refl), λ ts is. cc), (λ ts. omega arith, λ ts. omega arith))),
-     λ ts. (ts, refl), (λ ts h. term_not_close ts h, λ v e. absurd e))
-fits_of Context =
-    ((λ x T. (((λ vs. (tt, λ ys h is. cc)), λ ts. (ts, refl), item_fits (record { variable = x; type = T })), (λ ts is. comma_type ts is, λ ts. (ts, refl), λ ys h. bar_type ys h))),
-     tt, λ x ts. (x, ts, refl), λ ys h is. cc)
+fits_of Atom = (
+  (λ x. tt),
+  (
+    tt,
+    (
+      tt,
+      (
+        (λ x T. ((λ t. (tt, λ ts. omega arith)), λ ts. omega arith)),
+        (
+          (λ t. (tt, λ ts. omega arith)),
+          ((λ t. (tt, λ ts. omega arith)), (λ t. (tt, λ ys h. tt)), λ ts. (ts, refl), (λ ts h is. cc, λ v e. absurd e)),
+          λ ts. (ts, refl),
+          (λ ts is. cc, (λ ts h is. cc, λ v e. absurd e)),
+        ),
+        λ ts. (ts, refl),
+        (λ ts is. cc, (λ ts is. cc, (λ ts h is. cc, λ v e. absurd e))),
+      ),
+      λ ts. (ts, refl),
+      (λ ts is. cc, (λ ts is. cc, (λ ts is. cc, (λ ts h is. cc, λ v e. absurd e)))),
+    ),
+    λ ts. (ts, refl),
+    (λ ts is. cc, (λ ts is. cc, (λ ts is. cc, (λ ts is. cc, (λ ts h is. cc, λ v e. absurd e))))),
+  ),
+  λ x ts. (x, ts, refl),
+  (λ ts is. cc, (λ ts is. cc, (λ ts is. cc, (λ ts is. cc, (λ ts is. cc, (λ ts h is. cc, λ v e. absurd e)))))),
+)
+fits_of Parentheses = (
+  tt,
+  (λ s. (((λ t. (tt, λ ts. omega arith)), tt, λ ts. (ts, refl), λ ts is. cc), (λ ts. omega arith, λ ts. omega arith))),
+  λ ts. (ts, refl),
+  (λ ts h. term_not_close ts h, λ v e. absurd e),
+)
+fits_of Context = (
+  (λ x T. (((λ vs. (tt, λ ys h is. cc)), λ ts. (ts, refl), item_fits (record { variable = x; type = T })), (λ ts is. comma_type ts is, λ ts. (ts, refl), λ ys h. bar_type ys h))),
+  tt,
+  λ x ts. (x, ts, refl),
+  λ ys h is. cc,
+)
 
 -- ---- what derives is read
 

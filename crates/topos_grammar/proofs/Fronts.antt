@@ -1,15 +1,14 @@
 -- What a phrase begins with, and what may stand behind it.
-use Rattle.std.proofs.Common.{◌≡◌, ◌⊎◌, inl, inr, ℕ, zero, suc, ◌<◌, ◌≤◌, Bool, true, false, List, [], ◌∷◌, ◌++◌, refl, sym, ap, subst, ◌∙◌, arith, append_assoc}
+use Rattle.std.proofs.Common.{◌≡◌, ◌⊎◌, inl, inr, ℕ, zero, suc, Bool, true, false, List, [], ◌∷◌, ◌++◌, refl, sym, ap, subst, ◌∙◌, arith, append_assoc}
 use Rattle.topos_text.specs.declared.word.Word.TheVariants as word
 use Rattle.topos_text.specs.declared.symbol.Symbol.TheVariants as symbol
-use Rattle.topos_text.specs.Tokens.{Token, Written, Name, Place, Reserved, Sign}
-use Rattle.topos_text.specs.Trees.{TypeTree, TermTree, Binding}
+use Rattle.topos_text.specs.Tokens.{Token, Written, Name, Reserved, Sign}
+use Rattle.topos_text.specs.Trees.{TermTree}
 use Rattle.topos_text.specs.Phrases.{Part, token}
 use Rattle.topos_text.specs.Terms.{ends_with_body}
-use Rattle.topos_text.specs.Documents.{Derives}
-use Rattle.topos_grammar.specs.Kinds.{Sort, Tree, Kind, AnyType, ProductType, MoreFactors, PrefixType, AnyTerm, Disjunction, MoreDisjuncts, Conjunction, MoreConjuncts, Negation, BinderTerm, Comparison, Application, MoreArguments, Atom, Parentheses, Context, part, Side}
-use Rattle.topos_grammar.specs.Codes.{Class, This, AnyName, Either, Is, the, sign, binders, Code, give, eat, name, call, peek, loop, code}
-use Rattle.topos_grammar.proofs.Accepting.{Accepts, All, Sized, Undone, undone, Taken, taken, none, Cut, cut_at}
+use Rattle.topos_grammar.specs.Kinds.{Sort, Tree, Kind, AnyType, ProductType, MoreFactors, PrefixType, AnyTerm, Disjunction, MoreDisjuncts, Conjunction, MoreConjuncts, Negation, BinderTerm, Comparison, Application, MoreArguments, Atom, Parentheses, Context, part}
+use Rattle.topos_grammar.specs.Codes.{AnyName, Is, the, sign, binders, Code, give, eat, name, call, peek, loop, code}
+use Rattle.topos_grammar.proofs.Accepting.{Accepts, Sized, undone, taken, none, cut_at}
 use Rattle.topos_grammar.proofs.Sides.{accepts_side, more_disjuncts, more_conjuncts}
 
 -- the tokens with which a type, an atom and a term begin

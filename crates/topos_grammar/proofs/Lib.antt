@@ -5,4 +5,5 @@ pub mod Fronts
 pub mod Completeness
 pub mod Uniqueness
 pub mod Bodies
+pub mod Phrases
 pub mod Steps

@@ -1,14 +1,14 @@
 -- What is read derives, and what is read up to where reading stops begins something that derives.
-use Rattle.std.proofs.Common.{◌≡◌, ◌⊎◌, inl, inr, ℕ, List, [], ◌∷◌, ◌++◌, refl, sym, ap, subst, ◌∙◌, append_assoc}
+use Rattle.std.proofs.Common.{◌≡◌, inl, inr, List, [], ◌∷◌, ◌++◌, refl, sym, ap, subst, ◌∙◌, append_assoc}
 use Rattle.std.proofs.lemmas.List.{append-nil}
 use Rattle.topos_text.specs.Tokens.{Token, Written, Name}
 use Rattle.topos_text.specs.Phrases.{Part, token}
 use Rattle.topos_text.specs.Documents.{Derives, nothing, this}
 use Rattle.topos_text.proofs.DerivationParts.{joined}
-use Rattle.topos_grammar.specs.Kinds.{Sort, Tree, Kind, part, Side}
-use Rattle.topos_grammar.specs.Codes.{Class, This, AnyName, Is, Code, give, eat, name, call, peek, loop, code}
+use Rattle.topos_grammar.specs.Kinds.{Sort, Tree, Kind, part}
+use Rattle.topos_grammar.specs.Codes.{Class, Code, give, eat, name, call, peek, loop, code}
 use Rattle.topos_grammar.specs.Reading.{Read, Whole, Stops, Reading, gives, eats, eats_not, names, names_not, calls, calls_not, peeks, peeks_not, loops, loops_not, loops_end}
-use Rattle.topos_grammar.proofs.Accepting.{Accepts, All, derive_by}
+use Rattle.topos_grammar.proofs.Accepting.{Accepts, derive_by}
 use Rattle.topos_grammar.proofs.Sides.{side_of, sample}
 
 -- the tokens before the rest are what the code reads

@@ -1,5 +1,5 @@
 -- The codes read the right sides of the grammar, and nothing else.
-use Rattle.std.proofs.Common.{◌≡◌, ◌⊎◌, inl, inr, Bool, true, false, List, [], ◌∷◌, ◌++◌, refl, sym, ap, subst, ◌∙◌}
+use Rattle.std.proofs.Common.{◌≡◌, inl, inr, Bool, true, false, List, [], ◌∷◌, ◌++◌, refl, sym, ap, subst, ◌∙◌}
 use Rattle.std.proofs.lemmas.List.{append-nil}
 use Rattle.topos_text.specs.declared.word.Word.TheVariants as word
 use Rattle.topos_text.specs.declared.symbol.Symbol.TheVariants as symbol
@@ -15,7 +15,7 @@ use Rattle.topos_text.specs.Terms as terms
 use Rattle.topos_text.specs.Documents.{Derives, nothing, this, by_type, by_term}
 use Rattle.topos_text.proofs.DerivationParts.{whole_type, whole_term}
 use Rattle.topos_grammar.specs.Kinds.{Sort, OfTerm, OfBinding, Tree, Kind, AnyType, ProductType, MoreFactors, PrefixType, AnyTerm, Disjunction, MoreDisjuncts, Conjunction, MoreConjuncts, Negation, BinderTerm, Comparison, Application, MoreArguments, Atom, Parentheses, Context, part, Side}
-use Rattle.topos_grammar.specs.Codes.{Class, the, sign, Code, give, eat, name, call, peek, loop, code, unless, eat_word, eat_sign, bind, bound, in_parentheses}
+use Rattle.topos_grammar.specs.Codes.{the, sign, Code, give, call, peek, code, unless, eat_word, eat_sign, bind, bound}
 use Rattle.topos_grammar.proofs.Accepting.{Accepts, All}
 
 abbrev pub after_disjunction : Bool → TermTree → Code OfTerm
@@ -88,7 +88,7 @@ side_of (MoreArguments r) t side (inr (e, e1)) = rw (e1, e) terms.application_en
 side_of Atom t side (inl (x, r1, e1, (e, e2))) = rw (e1, e2, e) terms.named
 side_of Atom t side (inr (inl (r1, e1, (e, e2)))) = rw (e1, e2, e) terms.truth
 side_of Atom t side (inr (inr (inl (r1, e1, (e, e2))))) = rw (e1, e2, e) terms.falsity
-side_of Atom t side (inr (inr (inr (inl (r1, e1, (x, r2, e2, (r3, e3, (T, r4, e4, (r5, e5, (u, r6, e6, (r7, e7, (e, e8))))))))))))  = rw (e1, e2, e3, e4, e5, e6, e7, e8, e) terms.subset
+side_of Atom t side (inr (inr (inr (inl (r1, e1, (x, r2, e2, (r3, e3, (T, r4, e4, (r5, e5, (u, r6, e6, (r7, e7, (e, e8)))))))))))) = rw (e1, e2, e3, e4, e5, e6, e7, e8, e) terms.subset
 side_of Atom t side (inr (inr (inr (inr (inl (r1, e1, (r2, e2, (u, r3, e3, (r4, e4, (e, e5)))))))))) = rw (e1, e2, e3, e4, e5, e) terms.first
 side_of Atom t side (inr (inr (inr (inr (inr (inl (r1, e1, (r2, e2, (u, r3, e3, (r4, e4, (e, e5))))))))))) = rw (e1, e2, e3, e4, e5, e) terms.second
 side_of Atom t side (inr (inr (inr (inr (inr (inr (u, r1, e1, (e, e2)))))))) = rw (e1, e2, e) terms.in_parentheses

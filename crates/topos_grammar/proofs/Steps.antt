@@ -1,13 +1,13 @@
 -- How the reading of a phrase follows from the reading of its parts.
-use Rattle.std.proofs.Common.{◌≡◌, ◌⊎◌, inl, inr, ℕ, ◌+◌, ◌≤◌, Bool, true, false, List, [], ◌∷◌, length, Result, Ok, Err, refl, sym, ap, subst, ◌∙◌, arith}
+use Rattle.std.proofs.Common.{◌≡◌, ◌+◌, ◌≤◌, List, ◌∷◌, length, Result, Ok, Err, sym, subst, arith}
 use Rattle.topos_text.specs.declared.word.Word.TheVariants as word
 use Rattle.topos_text.specs.declared.symbol.Symbol.TheVariants as symbol
 use Rattle.topos_text.specs.Tokens.{Token, Written, Name, Reserved, Sign}
 use Rattle.topos_text.specs.Trees.{TypeTree, TermTree, Binding}
 use Rattle.topos_text.specs.Trees as tree
-use Rattle.topos_grammar.specs.Kinds.{Sort, Tree, Kind, AnyType, ProductType, MoreFactors, PrefixType, AnyTerm, Disjunction, MoreDisjuncts, Conjunction, MoreConjuncts, Negation, BinderTerm, Comparison, Application, MoreArguments, Atom, Parentheses, Context}
-use Rattle.topos_grammar.specs.Codes.{Class, This, AnyName, Either, Is, the, sign, binders, Code, give, eat, name, call, peek, loop, code}
-use Rattle.topos_grammar.specs.Reading.{Read, Whole, Stops, Reading, Reads, gives, eats, eats_not, names, names_not, calls, calls_not, peeks, peeks_not}
+use Rattle.topos_grammar.specs.Kinds.{Sort, Tree, Kind, AnyType, ProductType, MoreFactors, PrefixType}
+use Rattle.topos_grammar.specs.Codes.{Class, AnyName, Is, the, sign, Code, give, eat, name, call, code}
+use Rattle.topos_grammar.specs.Reading.{Read, Whole, Stops, Reading, Reads, gives, eats, eats_not, names, calls, calls_not, peeks, peeks_not}
 use Rattle.topos_grammar.specs.Gives.{least, Fails, Gives, Misses}
 use Rattle.topos_grammar.specs.declared.stop.Stop.{Stop}
 use Rattle.topos_grammar.specs.declared.stop.Stop.TheVariants.{NoMemory, At}

@@ -1,11 +1,11 @@
 -- Reading gives one thing, and looks at no token behind the one at which it stops.
-use Rattle.std.proofs.Common.{◌≡◌, ◌⊎◌, inl, inr, ℕ, suc, ◌+◌, ◌≤◌, ◌<◌, Bool, true, false, List, [], ◌∷◌, ◌++◌, length, refl, sym, ap, subst, ◌∙◌, arith, append_assoc, length-append}
+use Rattle.std.proofs.Common.{◌≡◌, ◌⊎◌, inl, inr, Bool, true, false, List, [], ◌∷◌, ◌++◌, length, refl, sym, ap, subst, ◌∙◌, arith, append_assoc, length-append}
 use Rattle.std.proofs.lemmas.List.{append_cancel_right}
 use Rattle.topos_text.specs.Tokens.{Token, Written, Name}
 use Rattle.topos_grammar.specs.Kinds.{Sort, Tree, Kind}
 use Rattle.topos_grammar.specs.Codes.{Class, This, AnyName, Either, Is, Code, give, eat, name, call, peek, loop, code}
 use Rattle.topos_grammar.specs.Reading.{Read, Whole, Stops, Reading, gives, eats, eats_not, names, names_not, calls, calls_not, peeks, peeks_not, loops, loops_not, loops_end}
-use Rattle.topos_grammar.proofs.Meaning.{Found, Begun, meaning}
+use Rattle.topos_grammar.proofs.Meaning.{meaning}
 
 -- how the code was read
 abbrev Inverts : {s : Sort} → Code s → List Token → Read s → Type 0

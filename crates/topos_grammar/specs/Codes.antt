@@ -8,7 +8,7 @@ use Rattle.topos_text.specs.Tokens.{Token, Written, Name, Reserved, Sign}
 use Rattle.topos_text.specs.Trees.{TypeTree, Binding, Binder, Forall, Exists, Unique, Fun, TermTree}
 use Rattle.topos_text.specs.Trees as tree
 use Rattle.topos_text.specs.Terms.{ends_with_body, binder_word}
-use Rattle.topos_grammar.specs.Kinds.{Sort, OfType, OfTerm, OfContext, OfBinding, Tree, Kind, AnyType, ProductType, MoreFactors, PrefixType, AnyTerm, Disjunction, MoreDisjuncts, Conjunction, MoreConjuncts, Negation, BinderTerm, Comparison, Application, MoreArguments, Atom, Parentheses, Context}
+use Rattle.topos_grammar.specs.Kinds.{Sort, OfTerm, OfContext, OfBinding, Tree, Kind, AnyType, ProductType, MoreFactors, PrefixType, AnyTerm, Disjunction, MoreDisjuncts, Conjunction, MoreConjuncts, Negation, BinderTerm, Comparison, Application, MoreArguments, Atom, Parentheses, Context}
 
 -- a class of tokens
 pub data Class : Type 0 where

@@ -1,9 +1,9 @@
 -- What the functions of the parser give.
-use Rattle.std.specs.Prelude.{◌≡◌, ◌≤◌, ◌+◌, ℕ, List, [], ◌∷◌, length, Result, Ok, Err}
+use Rattle.std.specs.Prelude.{◌≡◌, ◌≤◌, ◌+◌, ℕ, List, length, Result, Ok, Err}
 use Rattle.topos_text.specs.Tokens.{Token}
 use Rattle.topos_grammar.specs.Kinds.{Sort, Tree, Kind, MoreFactors, MoreDisjuncts, MoreConjuncts, MoreArguments, Context}
 use Rattle.topos_grammar.specs.Codes.{Class, Is, code}
-use Rattle.topos_grammar.specs.Reading.{Read, Whole, Stops, Reads}
+use Rattle.topos_grammar.specs.Reading.{Whole, Stops, Reads}
 use Rattle.topos_grammar.specs.declared.stop.Stop.{Stop}
 use Rattle.topos_grammar.specs.declared.stop.Stop.TheVariants.{NoMemory, At}
 

@@ -1,6 +1,8 @@
 pub mod Kinds
 pub mod Codes
 pub mod Reading
+pub mod Follows
+pub mod Places
 pub mod Views
 pub mod Gives
-pub mod Places
+pub mod Laws

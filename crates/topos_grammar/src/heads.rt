@@ -34,13 +34,7 @@ pub fn after_symbol<'t, 'a>(tokens: &'t [Token<'a>], want: Symbol) -> Option<&'t
     ensures { MatchOption result (Is (sign want) (map token_of tokens.now) → ⊥) (λ rest. map token_of tokens.now ≡ Sign want ∷ map token_of rest.now) }
 {
     match tokens {
-        [Token::Symbol(symbol), rest @ ..] => {
-            if *symbol == want {
-                Some(rest)
-            } else {
-                None
-            }
-        }
+        [Token::Symbol(symbol), rest @ ..] => { if *symbol == want { Some(rest) } else { None } }
         _ => None,
     }
 }
@@ -66,9 +60,7 @@ pub fn expect<'t, 'a>(tokens: &'t [Token<'a>], want: Symbol) -> Result<&'t [Toke
 }
 
 /// The name that has to stand in front, and the tokens behind it.
-pub fn expect_name<'t, 'a>(
-    tokens: &'t [Token<'a>],
-) -> Result<(Written<'a>, &'t [Token<'a>]), Stop>
+pub fn expect_name<'t, 'a>(tokens: &'t [Token<'a>]) -> Result<(Written<'a>, &'t [Token<'a>]), Stop>
     ensures { MatchResult result (λ r. map token_of tokens.now ≡ Name (written r.0) ∷ map token_of r.1.now) (λ e. Misses AnyName (map token_of tokens.now) e) }
 {
     match name(tokens) {

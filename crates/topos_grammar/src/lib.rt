@@ -2,10 +2,12 @@
 #![tactic(auto)]
 
 mod heads;
+mod laws;
 mod stop;
 mod tree;
 mod types;
 
+pub use laws::reading_laws;
 pub use stop::Stop;
 pub use tree::{Binder, Binding, TermTree, TypeTree};
 pub use types::any_type;

@@ -1,4 +1,4 @@
-use Rattle.std.proofs.Common.{◌≡◌, ◌≢◌, Bool, true, false, MatchBool, refl, sym, ◌∙◌, rules}
+use Rattle.std.proofs.Common.{◌≡◌, Bool, true, false, MatchBool, refl, sym, ◌∙◌, rules}
 use denote.Enum.Bare.{same_true, same_false}
 use Rattle.topos_text.specs.contracts.word.Word.{the_type}
 use Rattle.topos_grammar.proofs.heads.same_word.Goals as goal

@@ -1,13 +1,12 @@
-use Rattle.std.proofs.Common.{◌≡◌, ◌+◌, ◌*◌, ◌<◌, ◌≤◌, ◌∷◌, List, map, length, Result, Err, refl, ap, sym, ◌∙◌, arith}
+use Rattle.std.proofs.Common.{map, length, ap, arith}
 use Rattle.std.proofs.lemmas.Result.{err_from_is_err_and}
-use Rattle.topos_text.specs.declared.word.Word.TheVariants as word
 use Rattle.topos_text.specs.declared.symbol.Symbol.TheVariants as symbol
-use Rattle.topos_text.specs.Tokens.{token_of, written, Reserved, Sign, Name}
+use Rattle.topos_text.specs.Tokens.{token_of, written}
 use Rattle.topos_text.specs.Trees as tree
 use Rattle.topos_grammar.specs.Kinds.{AnyType, ProductType, MoreFactors, PrefixType}
 use Rattle.topos_grammar.specs.Codes.{sign}
 use Rattle.topos_grammar.specs.Views.{type_of}
-use Rattle.topos_grammar.proofs.Steps.{fails_from, gives_from, fails_at, NoPrefix, any_type_stops, any_type_alone, function_stops, function_read, product_type_stops, product_type_read, factors_end, factors_stop, factors_more, power_stops, power_read, functor_read, one_read, omega_read, unopened_type, grouped_type_stops, unclosed_type, grouped_type_read}
+use Rattle.topos_grammar.proofs.Steps.{fails_from, gives_from, fails_at, any_type_stops, any_type_alone, function_stops, function_read, product_type_stops, product_type_read, factors_end, factors_stop, factors_more, power_stops, power_read, functor_read, one_read, omega_read, unopened_type, grouped_type_stops, unclosed_type, grouped_type_read}
 use Rattle.topos_grammar.proofs.types.+types.Goals as goal
 
 pub any_type-returns-in_err-left : goal.any_type-returns-in_err-left
@@ -25,8 +24,10 @@ any_type-returns-in_err-right-in-Some t c =
 
 pub any_type-returns-in_ok-function-in-Some : goal.any_type-returns-in_ok-function-in-Some
 any_type-returns-in_ok-function-in-Some t c =
-    rw c.in_ok-function-in-Some.ensures (function_read (map token_of c.args.tokens.now) (map token_of c.in_ok-left.rest.now) (map token_of c.in-Some.behind.now) (map token_of c.in_ok-right-in-Some.end.now) (type_of c.in_ok-left.left) (type_of c.in_ok-right-in-Some.right) c.in_ok-left.ensures.0 c.in-Some.ensures c.in_ok-right-in-Some.ensures.0,
-    omega (arith, c.in_ok-left.ensures.1, ap length c.in-Some.ensures, c.in_ok-right-in-Some.ensures.1))
+    rw c.in_ok-function-in-Some.ensures (
+      function_read (map token_of c.args.tokens.now) (map token_of c.in_ok-left.rest.now) (map token_of c.in-Some.behind.now) (map token_of c.in_ok-right-in-Some.end.now) (type_of c.in_ok-left.left) (type_of c.in_ok-right-in-Some.right) c.in_ok-left.ensures.0 c.in-Some.ensures c.in_ok-right-in-Some.ensures.0,
+      omega (arith, c.in_ok-left.ensures.1, ap length c.in-Some.ensures, c.in_ok-right-in-Some.ensures.1),
+    )
 
 pub product_type-returns-in_err-first : goal.product_type-returns-in_err-first
 product_type-returns-in_err-first t c =
@@ -83,6 +84,7 @@ prefix_type-returns-in_err-end t c =
     rw (p.1, p.2) (fails_at c.in_err-end.field-0.0 (sign symbol.CloseParenthesis) PrefixType (map token_of c.in_ok-inner-2.rest.now) (map token_of c.args.tokens.now) (λ other. unclosed_type (map token_of c.args.tokens.now) (map token_of c.in_ok-inside.inside.now) (map token_of c.in_ok-inner-2.rest.now) (type_of c.in_ok-inner-2.inner) (record { no_pow = c.in_default.ensures; no_name = c.in_default-name.ensures; no_one = c.in_default-after_word.ensures; no_omega = c.in_default-after_word-2.ensures }) c.in_ok-inside.ensures c.in_ok-inner-2.ensures.0 other) c.in_err-end.ensures)
 
 pub prefix_type-returns : goal.prefix_type-returns
-prefix_type-returns t c =
-    (grouped_type_read (map token_of c.args.tokens.now) (map token_of c.in_ok-inside.inside.now) (map token_of c.in_ok-inner-2.rest.now) (map token_of c.in_ok-end.end.now) (type_of c.in_ok-inner-2.inner) (record { no_pow = c.in_default.ensures; no_name = c.in_default-name.ensures; no_one = c.in_default-after_word.ensures; no_omega = c.in_default-after_word-2.ensures }) c.in_ok-inside.ensures c.in_ok-inner-2.ensures.0 c.in_ok-end.ensures,
-     omega (arith, ap length c.in_ok-inside.ensures, c.in_ok-inner-2.ensures.1, ap length c.in_ok-end.ensures))
+prefix_type-returns t c = (
+  grouped_type_read (map token_of c.args.tokens.now) (map token_of c.in_ok-inside.inside.now) (map token_of c.in_ok-inner-2.rest.now) (map token_of c.in_ok-end.end.now) (type_of c.in_ok-inner-2.inner) (record { no_pow = c.in_default.ensures; no_name = c.in_default-name.ensures; no_one = c.in_default-after_word.ensures; no_omega = c.in_default-after_word-2.ensures }) c.in_ok-inside.ensures c.in_ok-inner-2.ensures.0 c.in_ok-end.ensures,
+  omega (arith, ap length c.in_ok-inside.ensures, c.in_ok-inner-2.ensures.1, ap length c.in_ok-end.ensures),
+)
