@@ -29,13 +29,13 @@ is_not : (b : Bool) → not b ≡ true → b ≡ false
 is_not true e = absurd cc
 is_not false e = refl
 
-symbol_start : (c : ℕ) (cs : List ℕ) (s : Symbol) → symbol_of (c ∷ cs) ≡ Some s → starts_name c ≡ false
+pub symbol_start : (c : ℕ) (cs : List ℕ) (s : Symbol) → symbol_of (c ∷ cs) ≡ Some s → starts_name c ≡ false
 symbol_start c cs s e = is_not (starts_name c) (first_true (not (starts_name c)) (not (c == 35)) (symbol_is_no_name (c ∷ cs) s e))
 
-symbol_no_place : (cs : List ℕ) (s : Symbol) → symbol_of (35 ∷ cs) ≡ Some s → ⊥
+pub symbol_no_place : (cs : List ℕ) (s : Symbol) → symbol_of (35 ∷ cs) ≡ Some s → ⊥
 symbol_no_place cs s e = let bad : false ≡ true = second_true (not (starts_name 35)) false (symbol_is_no_name (35 ∷ cs) s e) in absurd cc
 
-place_no_start : starts_name 35 ≡ false
+pub place_no_start : starts_name 35 ≡ false
 unfolding unicode_ident
 place_no_start = refl
 

@@ -4,3 +4,4 @@ pub mod Fronts
 pub mod Blanks
 pub mod Digits
 pub mod Runs
+pub mod Uniqueness

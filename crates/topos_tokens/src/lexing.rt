@@ -1,11 +1,12 @@
 // A text as tokens.
-ghost use Rattle.std.specs.Prelude.{◌≡◌, ◌≤◌, length, map, [], IfOk, IfErr, MatchResult};
+ghost use Rattle.std.specs.Prelude.{◌≡◌, List, ◌≤◌, length, map, [], IfOk, IfErr, MatchResult};
 ghost use Rattle.std.specs.Str.{chars, IsUtf8, IsValidUpTo};
+ghost use Rattle.topos_text.specs.Tokens as tokens;
 ghost use Rattle.topos_text.specs.Tokens.{token_of};
 ghost use Rattle.topos_text.specs.Lexing.{Lexes};
 ghost use Rattle.topos_text.specs.Limits.{most};
 ghost use Rattle.topos_model.specs.declared.fault.Fault.TheVariants.{TooMany};
-ghost use Rattle.topos_tokens.specs.declared.fault.ReadFault.TheVariants.{Refused};
+ghost use Rattle.topos_tokens.specs.declared.fault.ReadFault.TheVariants.{Refused, NoMemory};
 ghost use Rattle.topos_tokens.specs.TokenFaults.{HasTokens, IsRefused, IsLexFault};
 
 use crate::ReadFault;
@@ -24,6 +25,7 @@ const DOCUMENT_BYTES: usize = 1_048_576;
 pub fn tokens<'a>(alloc: Global, bytes: &'a [u8]) -> Result<Vec<Token<'a>>, ReadFault>
     ensures tokens { IfOk result (λ v. HasTokens bytes.now (map token_of v.items)) }
     ensures refused { IfErr result (λ e. IsRefused bytes.now e) }
+    ensures only { (toks : List tokens.Token) → HasTokens bytes.now toks → MatchResult result (λ v. map token_of v.items ≡ toks) (λ e. e ≡ NoMemory) }
 {
     if bytes.len() > DOCUMENT_BYTES {
         return Err(too_many(Kind::Document));

@@ -5,11 +5,13 @@ mod blank;
 mod character;
 mod fault;
 mod front;
+mod laws;
 mod lexing;
 mod limit;
 mod symbol;
 mod word;
 
 pub use fault::ReadFault;
+pub use laws::token_laws;
 pub use lexing::tokens;
 pub use limit::limit_of;
