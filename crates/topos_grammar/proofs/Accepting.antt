@@ -5,8 +5,9 @@ use Rattle.topos_text.specs.Phrases.{Part, token, type, term, site, statement}
 use Rattle.topos_text.specs.Phrases as phrase
 use Rattle.topos_text.specs.Types.{TypeSide}
 use Rattle.topos_text.specs.Terms.{TermSide}
+use Rattle.topos_text.specs.SiteStatements.{SiteSide}
 use Rattle.topos_text.specs.Documents.{Derives, nothing, this, by_type, by_term, by_site, by_statement}
-use Rattle.topos_grammar.specs.Kinds.{Sort, Tree, Kind, AnyType, ProductType, MoreFactors, PrefixType, AnyTerm, Disjunction, MoreDisjuncts, Conjunction, MoreConjuncts, Negation, BinderTerm, Comparison, Application, MoreArguments, Atom, Parentheses, Context, part, Side}
+use Rattle.topos_grammar.specs.Kinds.{Sort, Tree, Kind, AnyType, ProductType, MoreFactors, PrefixType, AnyTerm, Disjunction, MoreDisjuncts, Conjunction, MoreConjuncts, Negation, BinderTerm, Comparison, Application, MoreArguments, Atom, Parentheses, Context, ArrowName, SiteStatement, Cover, part, Side}
 use Rattle.topos_grammar.specs.Codes.{Code, give, eat, name, call, peek, loop}
 
 -- the parts are those of the items, one behind the other
@@ -42,6 +43,9 @@ derive_by (MoreArguments a) v r d f = by_term r d f
 derive_by Atom v r d f = by_term r d f
 derive_by Parentheses v r d f = by_term r d f
 derive_by Context v r d f = by_term r d f
+derive_by ArrowName v r d f = by_site r d f
+derive_by SiteStatement v r d f = by_site r d f
+derive_by Cover v r d f = by_site r d f
 
 -- how many steps a derivation has
 unfoldable pub size : {ps : List Part} {xs : List Token} → Derives ps xs → ℕ
@@ -83,6 +87,12 @@ undone_term n K v N ps zs is to (by_term {side = side} {xs = xs} {ys = ys} r d f
     let m = less_of n (size d) (size f) le in
     record { less = m.0; is_less = m.1; side = side; front = xs; rest = ys; parts = refl; right_side = to side r; first = (d, m.2); others = (f, m.3) }
 
+undone_site : {s : Sort} (n : ℕ) (K : Kind s) (v : Tree s) (N : phrase.SitePhrase) (ps : List Part) (zs : List Token) → part K v ≡ site N → ((side : List Part) → SiteSide N side → Side K v side) → (d : Derives (site N ∷ ps) zs) → size d ≤ n → Undone n K v ps zs
+unfolding size
+undone_site n K v N ps zs is to (by_site {side = side} {xs = xs} {ys = ys} r d f) le =
+    let m = less_of n (size d) (size f) le in
+    record { less = m.0; is_less = m.1; side = side; front = xs; rest = ys; parts = refl; right_side = to side r; first = (d, m.2); others = (f, m.3) }
+
 pub undone : {s : Sort} (n : ℕ) (K : Kind s) (v : Tree s) (ps : List Part) (zs : List Token) → Sized n (part K v ∷ ps) zs → Undone n K v ps zs
 undone n AnyType v ps zs w = undone_type n AnyType v (phrase.AnyType v) ps zs refl (λ side r. r) w.0 w.1
 undone n ProductType v ps zs w = undone_type n ProductType v (phrase.ProductType v) ps zs refl (λ side r. r) w.0 w.1
@@ -101,6 +111,9 @@ undone n (MoreArguments a) v ps zs w = undone_term n (MoreArguments a) v (phrase
 undone n Atom v ps zs w = undone_term n Atom v (phrase.Atom v) ps zs refl (λ side r. r) w.0 w.1
 undone n Parentheses v ps zs w = undone_term n Parentheses v (phrase.Parentheses v) ps zs refl (λ side r. r) w.0 w.1
 undone n Context v ps zs w = undone_term n Context v (phrase.Context v) ps zs refl (λ side r. r) w.0 w.1
+undone n ArrowName v ps zs w = undone_site n ArrowName v (phrase.ArrowName v) ps zs refl (λ side r. r) w.0 w.1
+undone n SiteStatement v ps zs w = undone_site n SiteStatement v (phrase.SiteStatement v) ps zs refl (λ side r. r) w.0 w.1
+undone n Cover v ps zs w = undone_site n Cover v (phrase.Cover v) ps zs refl (λ side r. r) w.0 w.1
 
 -- a derivation that begins with a token, undone
 pub record Taken (n : ℕ) (u : Token) (ps : List Part) (zs : List Token) : Type 0 where

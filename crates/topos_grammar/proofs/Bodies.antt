@@ -4,7 +4,7 @@ use Rattle.topos_text.specs.declared.word.Word.TheVariants as word
 use Rattle.topos_text.specs.Tokens.{Token, Written}
 use Rattle.topos_text.specs.Trees.{TermTree, Binder, Forall, Exists, Unique, Fun}
 use Rattle.topos_text.specs.Terms.{ends_with_body}
-use Rattle.topos_grammar.specs.Kinds.{Sort, Tree, Kind, AnyType, ProductType, MoreFactors, PrefixType, AnyTerm, Disjunction, MoreDisjuncts, Conjunction, MoreConjuncts, Negation, BinderTerm, Comparison, Application, MoreArguments, Atom, Parentheses, Context}
+use Rattle.topos_grammar.specs.Kinds.{Sort, Tree, Kind, AnyType, ProductType, MoreFactors, PrefixType, AnyTerm, Disjunction, MoreDisjuncts, Conjunction, MoreConjuncts, Negation, BinderTerm, Comparison, Application, MoreArguments, Atom, Parentheses, Context, ArrowName, SiteStatement, Cover}
 use Rattle.topos_grammar.specs.Codes.{Is, the, Code, give, eat, name, call, peek, loop, code, bound}
 use Rattle.topos_grammar.specs.Reading.{Read, Whole, Stops, Reading, gives, eats, eats_not, names, names_not, calls, calls_not, peeks, peeks_not, loops, loops_not, loops_end, Closed, Ready}
 use Rattle.topos_grammar.proofs.Sides.{more_disjuncts, more_conjuncts, after_disjunction}
@@ -85,6 +85,9 @@ post_of Atom = (
 )
 post_of Parentheses = ((λ ts h. refl), ((λ ts h. tt), λ s. (((λ ts h. tt), λ t ts h. refl), λ ts h. refl)))
 post_of Context = ((λ x. ((λ ts h. tt), λ T vs ts h. tt)), λ ts h. tt)
+post_of ArrowName = ((λ x ts h. tt), λ f ts h. tt)
+post_of SiteStatement = ((λ x xs ts h. tt), ((λ f fs d c ts h. tt), λ g f. ((λ ts h. tt), λ h ts k. tt)))
+post_of Cover = λ x. ((λ ts h. tt), ((λ ts h. tt), λ f fs ts h. tt))
 
 abbrev Held : {s : Sort} → Read s → (Tree s → List Token → Type 0) → Type 0
 Held (Whole v rest) Q = Q v rest

@@ -8,8 +8,8 @@ use Rattle.topos_text.specs.Trees as tree
 use Rattle.topos_text.specs.Phrases.{Part, token}
 use Rattle.topos_text.specs.Terms.{ends_with_body}
 use Rattle.topos_text.specs.Documents.{Derives}
-use Rattle.topos_grammar.specs.Kinds.{Sort, OfBinding, OfContext, Tree, Kind, AnyType, ProductType, MoreFactors, PrefixType, AnyTerm, Disjunction, MoreDisjuncts, Conjunction, MoreConjuncts, Negation, BinderTerm, Comparison, Application, MoreArguments, Atom, Parentheses, Context, part, Side}
-use Rattle.topos_grammar.specs.Codes.{Class, This, Is, the, sign, binders, Code, give, eat, name, call, peek, loop, code, bound, bind, eat_sign}
+use Rattle.topos_grammar.specs.Kinds.{Sort, OfBinding, OfContext, Tree, Kind, AnyType, ProductType, MoreFactors, PrefixType, AnyTerm, Disjunction, MoreDisjuncts, Conjunction, MoreConjuncts, Negation, BinderTerm, Comparison, Application, MoreArguments, Atom, Parentheses, Context, part, Side, ArrowName, SiteStatement, Cover}
+use Rattle.topos_grammar.specs.Codes.{AnyName, Class, This, Is, the, sign, binders, Code, give, eat, name, call, peek, loop, code, bound, bind, eat_sign}
 use Rattle.topos_grammar.specs.Follows.{type_level, level, limit, Follow}
 use Rattle.topos_grammar.specs.Reading.{Whole, Reading, gives, eats, names, calls, peeks, peeks_not, loops, loops_end}
 use Rattle.topos_grammar.proofs.Accepting.{Accepts, All, Sized, undone, taken, none, cut_at, size}
@@ -123,6 +123,10 @@ item_fits b = λ x T. (tt, λ ys g. follow ys g T)
     follow ys (inl is) T = comma_type ys is
     follow ys (inr (vs, v, side, n, xs, zs, acc, w, f, e)) T = subst (λ z. 2 < type_level z) (sym e) (leads_to {s = OfContext} (give (b ∷ vs)) (λ z. 2 < type_level z) (Follow Context) v side n xs zs (λ z h. bar_type z h) acc w f)
 
+arrow_not_none : (ts : List Token) → Is (the word.Id) ts ⊎ Is AnyName ts → Is (the word.None) ts → ⊥
+arrow_not_none ts (inl h) is = cc
+arrow_not_none ts (inr h) is = cc
+
 fits_of : {s : Sort} (K : Kind s) → Fits (code K) (Follow K)
 unfolding code ends_with_body
 fits_of AnyType = λ S. (((λ T. (tt, λ ys h. h)), tt, λ ts. (ts, refl), λ ys h is. not_type 2 2 (Sign symbol.Arrow) ys h is (λ ts. refl) (omega arith)), (λ ts. omega arith, λ ys h. omega (arith, h)))
@@ -214,6 +218,24 @@ fits_of Context = (
   tt,
   λ x ts. (x, ts, refl),
   λ ys h is. cc,
+)
+fits_of ArrowName = ((λ x. tt), (λ f. tt), λ ts. (ts, refl), λ f ts is. cc)
+fits_of SiteStatement = (
+  (λ x. ((λ xs. (tt, λ ys h is. cc)), λ ts. (ts, refl), λ y. tt)),
+  (
+    (λ f. ((λ fs. ((λ d c. tt), λ ts is. cc)), λ ts. (ts, refl), λ y. tt)),
+    (λ g f h. (tt, λ ys k. tt)),
+    λ ts. (ts, refl),
+    λ ts is. cc,
+  ),
+  λ ts. (ts, refl),
+  (λ ts is. cc, λ ts is. cc),
+)
+fits_of Cover = λ x. (
+  tt,
+  (λ f. (((λ fs. (tt, λ ys h is. cc)), λ ts. (ts, refl), λ g. (tt, λ ys h. tt)), (λ ts h. tt, λ ts. (ts, refl), λ ys h. tt))),
+  λ ts. (ts, refl),
+  (λ ts h is. arrow_not_none ts h is, λ v e. absurd e),
 )
 
 -- ---- what derives is read

@@ -6,7 +6,7 @@ use Rattle.topos_text.specs.Tokens.{Token, Written, Name, Reserved, Sign}
 use Rattle.topos_text.specs.Trees.{TermTree}
 use Rattle.topos_text.specs.Phrases.{Part, token}
 use Rattle.topos_text.specs.Terms.{ends_with_body}
-use Rattle.topos_grammar.specs.Kinds.{Sort, Tree, Kind, AnyType, ProductType, MoreFactors, PrefixType, AnyTerm, Disjunction, MoreDisjuncts, Conjunction, MoreConjuncts, Negation, BinderTerm, Comparison, Application, MoreArguments, Atom, Parentheses, Context, part}
+use Rattle.topos_grammar.specs.Kinds.{Sort, Tree, Kind, AnyType, ProductType, MoreFactors, PrefixType, AnyTerm, Disjunction, MoreDisjuncts, Conjunction, MoreConjuncts, Negation, BinderTerm, Comparison, Application, MoreArguments, Atom, Parentheses, Context, part, ArrowName, SiteStatement, Cover}
 use Rattle.topos_grammar.specs.Codes.{AnyName, Is, the, sign, binders, Code, give, eat, name, call, peek, loop, code}
 use Rattle.topos_grammar.proofs.Accepting.{Accepts, Sized, undone, taken, none, cut_at}
 use Rattle.topos_grammar.proofs.Sides.{accepts_side, more_disjuncts, more_conjuncts}
@@ -52,6 +52,9 @@ Heads (MoreArguments r) ts = Is (sign symbol.OpenParenthesis) ts
 Heads Atom ts = begins_atom ts ≡ true
 Heads Parentheses ts = Is (sign symbol.OpenParenthesis) ts
 Heads Context ts = Is AnyName ts
+Heads ArrowName ts = Is (the word.Id) ts ⊎ Is AnyName ts
+Heads SiteStatement ts = Is (the word.Object) ts ⊎ (Is (the word.Arrow) ts ⊎ Is (the word.Compose) ts)
+Heads Cover ts = Is (the word.Cover) ts
 
 -- the phrase of the kind with the tree may have no token
 abbrev pub Empty : {s : Sort} → Kind s → Tree s → Type 0
@@ -103,6 +106,9 @@ leads_of (MoreArguments r) = ((λ ts h. h, λ v e. absurd e), refl)
 leads_of Atom = (λ x ts. refl, (λ ts. refl, (λ ts. refl, (λ ts. refl, (λ ts. refl, (λ ts. refl, (λ ts h. subst (λ z. begins_atom z ≡ true) (sym h.1) refl, λ v e. absurd e)))))))
 leads_of Parentheses = λ ts. (ts, refl)
 leads_of Context = (λ x ts. (x, ts, refl), refl)
+leads_of ArrowName = (λ ts. inl (ts, refl), λ x ts. inr (x, ts, refl))
+leads_of SiteStatement = (λ ts. inl (ts, refl), (λ ts. inr (inl (ts, refl)), λ ts. inr (inr (ts, refl))))
+leads_of Cover = λ ts. (ts, refl)
 
 abbrev LeadsAll : ℕ → Type 1
 LeadsAll n = (s : Sort) (c : Code s) (P : List Token → Type 0) (E : Tree s → Type 0) (v : Tree s) (side : List Part) (xs : List Token) → Leads c P E → Accepts c v side → Sized n side xs → Led xs P (E v)

@@ -6,16 +6,17 @@ use Rattle.topos_text.specs.declared.symbol.Symbol.TheVariants as symbol
 use Rattle.topos_text.specs.Tokens.{Token, Written, Name, Reserved, Sign}
 use Rattle.topos_text.specs.Trees.{TypeTree, TermTree, Binding, Binder, Forall, Exists, Unique, Fun}
 use Rattle.topos_text.specs.Trees as tree
-use Rattle.topos_text.specs.Phrases.{Part, token, type, term, commas, binding}
+use Rattle.topos_text.specs.Phrases.{Part, token, type, term, site, commas, names, binding}
 use Rattle.topos_text.specs.Phrases as phrase
 use Rattle.topos_text.specs.Types.{TypeSide}
 use Rattle.topos_text.specs.Types as types
 use Rattle.topos_text.specs.Terms.{TermSide, ends_with_body, binder_word}
 use Rattle.topos_text.specs.Terms as terms
+use Rattle.topos_text.specs.SiteStatements as sites
 use Rattle.topos_text.specs.Documents.{Derives, nothing, this, by_type, by_term}
-use Rattle.topos_text.proofs.DerivationParts.{whole_type, whole_term}
-use Rattle.topos_grammar.specs.Kinds.{Sort, OfTerm, OfBinding, Tree, Kind, AnyType, ProductType, MoreFactors, PrefixType, AnyTerm, Disjunction, MoreDisjuncts, Conjunction, MoreConjuncts, Negation, BinderTerm, Comparison, Application, MoreArguments, Atom, Parentheses, Context, part, Side}
-use Rattle.topos_grammar.specs.Codes.{the, sign, Code, give, call, peek, code, unless, eat_word, eat_sign, bind, bound}
+use Rattle.topos_text.proofs.DerivationParts.{whole_type, whole_term, whole_site}
+use Rattle.topos_grammar.specs.Kinds.{Sort, OfTerm, OfBinding, OfName, OfArrow, Tree, Kind, AnyType, ProductType, MoreFactors, PrefixType, AnyTerm, Disjunction, MoreDisjuncts, Conjunction, MoreConjuncts, Negation, BinderTerm, Comparison, Application, MoreArguments, Atom, Parentheses, Context, ArrowName, SiteStatement, Cover, part, Side}
+use Rattle.topos_grammar.specs.Codes.{the, sign, Code, give, name, call, peek, code, unless, eat_word, eat_sign, bind, bound}
 use Rattle.topos_grammar.proofs.Accepting.{Accepts, All}
 
 abbrev pub after_disjunction : Bool → TermTree → Code OfTerm
@@ -53,6 +54,19 @@ context_items (v ∷ vs) front (f1, f2, e, (r1, e1, (x, r2, e2, (r3, e3, (T, r4,
     let later : binding v ++ f2 ≡ commas binding v vs = context_items vs f2 all v f2 refl in
     let item : f1 ≡ token (Sign symbol.Comma) ∷ binding v = rw (e1, e2, e3, e4, e6, e5) refl in
     ap (λ z. binding b ++ z) (is ∙ e ∙ ap (λ z. z ++ f2) item) ∙ ap (λ z. binding b ++ token (Sign symbol.Comma) ∷ z) later
+
+-- items behind an item, each with a comma
+listed : {A : Type 0} (X : A → List Part) (P : A → List Part → Type 0) → ((v : A) (f : List Part) → P v f → f ≡ token (Sign symbol.Comma) ∷ X v) → (vs : List A) (front : List Part) → All P vs front → (a : A) → X a ++ front ≡ commas X a vs
+unfolding commas
+listed X P item [] front e a = ap (λ z. X a ++ z) e ∙ append-nil (X a)
+listed X P item (v ∷ vs) front (f1, f2, e, one, all) a =
+    ap (λ z. X a ++ z) (e ∙ ap (λ z. z ++ f2) (item v f1 one)) ∙ ap (λ z. X a ++ token (Sign symbol.Comma) ∷ z) (listed X P item vs f2 all v)
+
+name_item : (v : Written) (f : List Part) → Accepts {s = OfName} (eat_sign symbol.Comma (name (λ y. give y))) v f → f ≡ token (Sign symbol.Comma) ∷ token (Name v) ∷ []
+name_item v f (r1, e1, (x, r2, e2, (e3, e4))) = rw (e1, e2, e4, e3) refl
+
+arrow_item : (v : tree.ArrowTree) (f : List Part) → Accepts {s = OfArrow} (eat_sign symbol.Comma (call ArrowName (λ g. give g))) v f → f ≡ token (Sign symbol.Comma) ∷ site (phrase.ArrowName v) ∷ []
+arrow_item v f (r1, e1, (x, r2, e2, (e3, e4))) = rw (e1, e2, e4, e3) refl
 
 -- a right side that a code reads is one of the phrase
 pub side_of : {s : Sort} (K : Kind s) (v : Tree s) (side : List Part) → Accepts (code K) v side → Side K v side
@@ -100,6 +114,24 @@ side_of Context t side (inl (x, r1, e1, (r2, e2, (T, r3, e3, (vs, front, rest, e
     let whole : side ≡ commas binding (record { variable = x; type = T }) vs = rw (e1, e2, e3, e4, e5) (ap (λ z. binding (record { variable = x; type = T }) ++ z) (append-nil front) ∙ items) in
     rw (whole, e) terms.variables
 side_of Context t side (inr (e, e1)) = rw (e1, e) terms.no_variable
+side_of ArrowName t side (inl (r1, e1, (x, r2, e2, (e, e3)))) = rw (e1, e2, e3, e) sites.identity
+side_of ArrowName t side (inr (x, r1, e1, (e, e2))) = rw (e1, e2, e) sites.declared
+side_of SiteStatement t side (inl (r1, e1, (x, r2, e2, (xs, front, rest, e3, all, (e, e4))))) =
+    let list : token (Name x) ∷ front ≡ names x xs = listed (λ z. token (Name z) ∷ []) _ name_item xs front all x in
+    let whole : side ≡ token (Reserved word.Object) ∷ names x xs = rw (e1, e2, e3, e4) (ap (λ z. token (Reserved word.Object) ∷ token (Name x) ∷ z) (append-nil front) ∙ ap (λ z. token (Reserved word.Object) ∷ z) list) in
+    rw (whole, e) sites.objects
+side_of SiteStatement t side (inr (inl (r1, e1, (x, r2, e2, (xs, front, rest, e3, all, (r3, e4, (d, r4, e5, (r5, e6, (c, r6, e7, (e, e8)))))))))) =
+    let list : token (Name x) ∷ front ≡ names x xs = listed (λ z. token (Name z) ∷ []) _ name_item xs front all x in
+    let whole : side ≡ token (Reserved word.Arrow) ∷ names x xs ++ token (Sign symbol.Colon) ∷ token (Name d) ∷ token (Sign symbol.Arrow) ∷ token (Name c) ∷ [] =
+    rw (e1, e2, e3, e4, e5, e6, e7, e8) (ap (λ z. token (Reserved word.Arrow) ∷ z ++ token (Sign symbol.Colon) ∷ token (Name d) ∷ token (Sign symbol.Arrow) ∷ token (Name c) ∷ []) list) in
+    rw (whole, e) sites.arrows
+side_of SiteStatement t side (inr (inr (r1, e1, (g, r2, e2, (r3, e3, (f, r4, e4, (r5, e5, (h, r6, e6, (e, e7))))))))) = rw (e1, e2, e3, e4, e5, e6, e7, e) sites.composite
+side_of Cover t side (r1, e1, (x, r2, e2, (r3, e3, inl (r4, e4, (e, e5))))) = rw (e1, e2, e3, e4, e5, e) sites.cover_by_none
+side_of Cover t side (r1, e1, (x, r2, e2, (r3, e3, inr (f, r4, e4, (fs, front, rest, e5, all, (e, e6)))))) =
+    let list : site (phrase.ArrowName f) ∷ front ≡ commas (λ g. site (phrase.ArrowName g) ∷ []) f fs = listed (λ g. site (phrase.ArrowName g) ∷ []) _ arrow_item fs front all f in
+    let whole : side ≡ token (Reserved word.Cover) ∷ token (Name x) ∷ token (Reserved word.By) ∷ commas (λ g. site (phrase.ArrowName g) ∷ []) f fs =
+    rw (e1, e2, e3, e4, e5, e6) (ap (λ z. token (Reserved word.Cover) ∷ token (Name x) ∷ token (Reserved word.By) ∷ site (phrase.ArrowName f) ∷ z) (append-nil front) ∙ ap (λ z. token (Reserved word.Cover) ∷ token (Name x) ∷ token (Reserved word.By) ∷ z) list) in
+    rw (whole, e) sites.cover_by
 
 -- ---- the other way
 
@@ -149,6 +181,33 @@ unfolding code
 context_accepts b vs = subst (λ z. Accepts (code Context) (b ∷ vs) z) (ap (λ z. binding b ++ z) (append-nil (later_items vs)) ∙ sym (later_commas b vs))
     (inl (b.variable, _, refl, (_, refl, (b.type, _, refl, (vs, later_items vs, [], refl, later_accepted vs, (refl, refl))))))
 
+-- names behind a name, and arrows behind an arrow, with their commas
+abbrev later_names : List Written → List Part
+later_names [] = []
+later_names (v ∷ vs) = (token (Sign symbol.Comma) ∷ token (Name v) ∷ []) ++ later_names vs
+
+names_accepted : (vs : List Written) → All (λ v z. Accepts {s = OfName} (eat_sign symbol.Comma (name (λ y. give y))) v z) vs (later_names vs)
+names_accepted [] = refl
+names_accepted (v ∷ vs) = (token (Sign symbol.Comma) ∷ token (Name v) ∷ [], later_names vs, refl, (_, refl, (v, _, refl, (refl, refl))), names_accepted vs)
+
+names_commas : (x : Written) (vs : List Written) → names x vs ≡ token (Name x) ∷ later_names vs
+unfolding commas
+names_commas x [] = refl
+names_commas x (v ∷ vs) = ap (λ z. token (Name x) ∷ token (Sign symbol.Comma) ∷ z) (names_commas v vs)
+
+abbrev later_arrows : List tree.ArrowTree → List Part
+later_arrows [] = []
+later_arrows (v ∷ vs) = (token (Sign symbol.Comma) ∷ site (phrase.ArrowName v) ∷ []) ++ later_arrows vs
+
+arrows_accepted : (vs : List tree.ArrowTree) → All (λ v z. Accepts {s = OfArrow} (eat_sign symbol.Comma (call ArrowName (λ g. give g))) v z) vs (later_arrows vs)
+arrows_accepted [] = refl
+arrows_accepted (v ∷ vs) = (token (Sign symbol.Comma) ∷ site (phrase.ArrowName v) ∷ [], later_arrows vs, refl, (_, refl, (v, _, refl, (refl, refl))), arrows_accepted vs)
+
+arrows_commas : (f : tree.ArrowTree) (vs : List tree.ArrowTree) → commas (λ g. site (phrase.ArrowName g) ∷ []) f vs ≡ site (phrase.ArrowName f) ∷ later_arrows vs
+unfolding commas
+arrows_commas f [] = refl
+arrows_commas f (v ∷ vs) = ap (λ z. site (phrase.ArrowName f) ∷ token (Sign symbol.Comma) ∷ z) (arrows_commas v vs)
+
 -- each right side of the phrase is read by its code
 pub accepts_side : {s : Sort} (K : Kind s) (v : Tree s) (side : List Part) → Side K v side → Accepts (code K) v side
 unfolding code
@@ -195,6 +254,19 @@ accepts_side Parentheses t side (terms.group {t = u}) = (_, refl, inr (u, _, ref
 accepts_side Parentheses t side (terms.pair {s = s} {t = u}) = (_, refl, inr (s, _, refl, inl (_, refl, (u, _, refl, (_, refl, (refl, refl))))))
 accepts_side Context t side terms.no_variable = inr (refl, refl)
 accepts_side Context t side (terms.variables {b = b} {bs = bs}) = context_accepts b bs
+accepts_side ArrowName t side (sites.declared {f = f}) = inr (f, _, refl, (refl, refl))
+accepts_side ArrowName t side (sites.identity {x = x}) = inl (_, refl, (x, _, refl, (refl, refl)))
+accepts_side SiteStatement t side (sites.objects {x = x} {xs = xs}) =
+    subst (λ z. Accepts (code SiteStatement) (tree.Objects (x ∷ xs)) z) (ap (λ z. token (Reserved word.Object) ∷ z) (ap (λ z. token (Name x) ∷ z) (append-nil (later_names xs)) ∙ sym (names_commas x xs)))
+    (inl (_, refl, (x, _, refl, (xs, later_names xs, [], refl, names_accepted xs, (refl, refl)))))
+accepts_side SiteStatement t side (sites.arrows {f = f} {dom = d} {cod = c} {fs = fs}) =
+    subst (λ z. Accepts (code SiteStatement) (tree.Arrows (f ∷ fs) d c) z) (ap (λ z. token (Reserved word.Arrow) ∷ z ++ token (Sign symbol.Colon) ∷ token (Name d) ∷ token (Sign symbol.Arrow) ∷ token (Name c) ∷ []) (sym (names_commas f fs)))
+    (inr (inl (_, refl, (f, _, refl, (fs, later_names fs, _, refl, names_accepted fs, (_, refl, (d, _, refl, (_, refl, (c, _, refl, (refl, refl))))))))))
+accepts_side SiteStatement t side (sites.composite {g = g} {f = f} {h = h}) = inr (inr (_, refl, (g, _, refl, (_, refl, (f, _, refl, (_, refl, (h, _, refl, (refl, refl))))))))
+accepts_side Cover t side (sites.cover_by_none {x = x}) = (_, refl, (x, _, refl, (_, refl, inl (_, refl, (refl, refl)))))
+accepts_side Cover t side (sites.cover_by {x = x} {f = f} {fs = fs}) =
+    subst (λ z. Accepts (code Cover) (record { object = x; arrows = f ∷ fs }) z) (ap (λ z. token (Reserved word.Cover) ∷ token (Name x) ∷ token (Reserved word.By) ∷ z) (ap (λ z. site (phrase.ArrowName f) ∷ z) (append-nil (later_arrows fs)) ∙ sym (arrows_commas f fs)))
+    (_, refl, (x, _, refl, (_, refl, inr (f, _, refl, (fs, later_arrows fs, [], refl, arrows_accepted fs, (refl, refl))))))
 
 -- ---- a phrase of each kind
 
@@ -228,6 +300,10 @@ some_name = record { text = []; token = 0 }
 true_bound : Derives (term (phrase.BinderTerm (tree.Bound Forall (record { variable = some_name; type = tree.One }) tree.Truth)) ∷ []) (Reserved word.Forall ∷ Name some_name ∷ Sign symbol.Colon ∷ Reserved word.One ∷ Sign symbol.Dot ∷ Reserved word.True ∷ [])
 true_bound = whole_term terms.bound (this (this (this (by_type types.product_alone one_type (this true_term)))))
 
+one_object : Derives (site (phrase.SiteStatement (tree.Objects (some_name ∷ []))) ∷ []) (Reserved word.Object ∷ Name some_name ∷ [])
+unfolding commas
+one_object = whole_site sites.objects (this (this nothing))
+
 pub sample : {s : Sort} (K : Kind s) → (v : Tree s) × (xs : List Token) × Derives (part K v ∷ []) xs
 sample AnyType = (tree.One, _, whole_type types.product_alone one_type)
 sample ProductType = (tree.One, _, one_type)
@@ -246,3 +322,6 @@ sample (MoreArguments r) = (r, _, whole_term terms.application_end nothing)
 sample Atom = (tree.Truth, _, whole_term terms.truth (this nothing))
 sample Parentheses = (tree.Unit, _, whole_term terms.unit (this (this nothing)))
 sample Context = ([], _, whole_term terms.no_variable nothing)
+sample ArrowName = (tree.Declared some_name, Name some_name ∷ [], whole_site sites.declared (this nothing))
+sample SiteStatement = (tree.Objects (some_name ∷ []), Reserved word.Object ∷ Name some_name ∷ [], one_object)
+sample Cover = (record { object = some_name; arrows = [] }, Reserved word.Cover ∷ Name some_name ∷ Reserved word.By ∷ Reserved word.None ∷ [], whole_site sites.cover_by_none (this (this (this (this nothing)))))

@@ -8,7 +8,7 @@ use Rattle.topos_text.specs.Tokens.{Token, Written, Name, Reserved, Sign}
 use Rattle.topos_text.specs.Trees.{TypeTree, Binding, Binder, Forall, Exists, Unique, Fun, TermTree}
 use Rattle.topos_text.specs.Trees as tree
 use Rattle.topos_text.specs.Terms.{ends_with_body, binder_word}
-use Rattle.topos_grammar.specs.Kinds.{Sort, OfTerm, OfContext, OfBinding, Tree, Kind, AnyType, ProductType, MoreFactors, PrefixType, AnyTerm, Disjunction, MoreDisjuncts, Conjunction, MoreConjuncts, Negation, BinderTerm, Comparison, Application, MoreArguments, Atom, Parentheses, Context}
+use Rattle.topos_grammar.specs.Kinds.{Sort, OfTerm, OfContext, OfBinding, Tree, Kind, AnyType, ProductType, MoreFactors, PrefixType, AnyTerm, Disjunction, MoreDisjuncts, Conjunction, MoreConjuncts, Negation, BinderTerm, Comparison, Application, MoreArguments, Atom, Parentheses, Context, ArrowName, SiteStatement, Cover, OfName, OfArrow}
 
 -- a class of tokens
 pub data Class : Type 0 where
@@ -67,6 +67,10 @@ bound b = eat_word (binder_word b) (bind (λ x. eat_sign symbol.Dot (call AnyTer
 abbrev pub in_parentheses : (TermTree → TermTree) → Code OfTerm
 in_parentheses f = eat_sign symbol.OpenParenthesis (call AnyTerm (λ t. eat_sign symbol.CloseParenthesis (give (f t))))
 
+-- NAME {{ "," NAME }}
+abbrev pub names : {s : Sort} → (Written → List Written → Code s) → Code s
+names {s} k = name (λ x. loop {s = s} {u = OfName} (sign symbol.Comma) (eat_sign symbol.Comma (name (λ y. give {s = OfName} y))) (λ ys. k x ys))
+
 unfoldable pub code : {s : Sort} → Kind s → Code s
 code AnyType = call ProductType (λ S. peek (sign symbol.Arrow) (eat_sign symbol.Arrow (call AnyType (λ T. give (tree.Function S T)))) (give S))
 code ProductType = call PrefixType (λ S. call (MoreFactors S) give)
@@ -111,3 +115,11 @@ code Parentheses = eat_sign symbol.OpenParenthesis
     peek (sign symbol.Comma) (eat_sign symbol.Comma (call AnyTerm (λ t. eat_sign symbol.CloseParenthesis (give (tree.Paired s t)))))
     (eat_sign symbol.CloseParenthesis (give (tree.Grouped s))))))
 code Context = peek AnyName (bind (λ b. loop {s = OfContext} {u = OfBinding} (sign symbol.Comma) (eat_sign symbol.Comma (bind (λ c. give {s = OfBinding} c))) (λ bs. give (b ∷ bs)))) (give [])
+code ArrowName = peek (the word.Id) (eat_word word.Id (name (λ x. give (tree.Identity x)))) (name (λ f. give (tree.Declared f)))
+code SiteStatement =
+    peek (the word.Object) (eat_word word.Object (names (λ x xs. give (tree.Objects (x ∷ xs)))))
+    (peek (the word.Arrow) (eat_word word.Arrow (names (λ f fs. eat_sign symbol.Colon (name (λ d. eat_sign symbol.Arrow (name (λ c. give (tree.Arrows (f ∷ fs) d c))))))))
+    (eat_word word.Compose (name (λ g. eat_sign symbol.Dot (name (λ f. eat_sign symbol.Equals (call ArrowName (λ h. give (tree.Composite g f h)))))))))
+code Cover = eat_word word.Cover (name (λ x. eat_word word.By
+    (peek (the word.None) (eat_word word.None (give (record { object = x; arrows = [] })))
+    (call ArrowName (λ f. loop {u = OfArrow} (sign symbol.Comma) (eat_sign symbol.Comma (call ArrowName (λ g. give g))) (λ fs. give (record { object = x; arrows = f ∷ fs })))))))

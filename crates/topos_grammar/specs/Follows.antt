@@ -4,7 +4,7 @@ use Rattle.topos_text.specs.declared.word.Word.TheVariants as word
 use Rattle.topos_text.specs.declared.symbol.Symbol.TheVariants as symbol
 use Rattle.topos_text.specs.Tokens.{Token, Reserved, Sign}
 use Rattle.topos_text.specs.Terms.{ends_with_body}
-use Rattle.topos_grammar.specs.Kinds.{Sort, Tree, Kind, AnyType, ProductType, MoreFactors, PrefixType, AnyTerm, Disjunction, MoreDisjuncts, Conjunction, MoreConjuncts, Negation, BinderTerm, Comparison, Application, MoreArguments, Atom, Parentheses, Context}
+use Rattle.topos_grammar.specs.Kinds.{Sort, Tree, Kind, AnyType, ProductType, MoreFactors, PrefixType, AnyTerm, Disjunction, MoreDisjuncts, Conjunction, MoreConjuncts, Negation, BinderTerm, Comparison, Application, MoreArguments, Atom, Parentheses, Context, ArrowName, SiteStatement, Cover}
 use Rattle.topos_grammar.specs.Codes.{Is, sign}
 
 -- how loosely the token in front binds
@@ -46,3 +46,6 @@ Follow (MoreArguments r) t ts = 1 < level ts
 Follow Atom t ts = Unit {0}
 Follow Parentheses t ts = Unit {0}
 Follow Context t ts = Is (sign symbol.Bar) ts
+Follow ArrowName t ts = Unit {0}
+Follow SiteStatement t ts = Is (sign symbol.Semicolon) ts
+Follow Cover t ts = Is (sign symbol.Semicolon) ts

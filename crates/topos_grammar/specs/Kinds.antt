@@ -1,10 +1,12 @@
 -- The kinds of phrases, without their trees.
 use Rattle.std.specs.Prelude.{List}
-use Rattle.topos_text.specs.Trees.{TypeTree, TermTree, Binding}
-use Rattle.topos_text.specs.Phrases.{Part, type, term}
+use Rattle.topos_text.specs.Tokens.{Written}
+use Rattle.topos_text.specs.Trees.{TypeTree, TermTree, Binding, ArrowTree, SiteTree, CoverTree}
+use Rattle.topos_text.specs.Phrases.{Part, type, term, site}
 use Rattle.topos_text.specs.Phrases as phrase
 use Rattle.topos_text.specs.Types.{TypeSide}
 use Rattle.topos_text.specs.Terms.{TermSide}
+use Rattle.topos_text.specs.SiteStatements.{SiteSide}
 
 -- what the trees of a phrase are
 pub data Sort : Type 0 where
@@ -12,12 +14,20 @@ pub data Sort : Type 0 where
   OfTerm : Sort
   OfContext : Sort
   OfBinding : Sort
+  OfName : Sort
+  OfArrow : Sort
+  OfSite : Sort
+  OfCover : Sort
 
 abbrev pub Tree : Sort → Type 0
 Tree OfType = TypeTree
 Tree OfTerm = TermTree
 Tree OfContext = List Binding
 Tree OfBinding = Binding
+Tree OfName = Written
+Tree OfArrow = ArrowTree
+Tree OfSite = SiteTree
+Tree OfCover = CoverTree
 
 -- A kind of phrases. One that goes on from a tree has that tree.
 pub data Kind : Sort → Type 0 where
@@ -38,6 +48,9 @@ pub data Kind : Sort → Type 0 where
   Atom : Kind OfTerm
   Parentheses : Kind OfTerm
   Context : Kind OfContext
+  ArrowName : Kind OfArrow
+  SiteStatement : Kind OfSite
+  Cover : Kind OfCover
 
 -- the phrase of the kind with the tree
 abbrev pub part : {s : Sort} → Kind s → Tree s → Part
@@ -58,6 +71,9 @@ part (MoreArguments r) t = term (phrase.MoreArguments r t)
 part Atom t = term (phrase.Atom t)
 part Parentheses t = term (phrase.Parentheses t)
 part Context t = term (phrase.Context t)
+part ArrowName t = site (phrase.ArrowName t)
+part SiteStatement t = site (phrase.SiteStatement t)
+part Cover t = site (phrase.Cover t)
 
 -- a right side of that phrase
 abbrev pub Side : {s : Sort} → Kind s → Tree s → List Part → Type 0
@@ -78,3 +94,6 @@ Side (MoreArguments r) t side = TermSide (phrase.MoreArguments r t) side
 Side Atom t side = TermSide (phrase.Atom t) side
 Side Parentheses t side = TermSide (phrase.Parentheses t) side
 Side Context t side = TermSide (phrase.Context t) side
+Side ArrowName t side = SiteSide (phrase.ArrowName t) side
+Side SiteStatement t side = SiteSide (phrase.SiteStatement t) side
+Side Cover t side = SiteSide (phrase.Cover t) side

@@ -58,13 +58,3 @@ pub fn expect<'t, 'a>(tokens: &'t [Token<'a>], want: Symbol) -> Result<&'t [Toke
         None => Err(Stop::At(tokens.len())),
     }
 }
-
-/// The name that has to stand in front, and the tokens behind it.
-pub fn expect_name<'t, 'a>(tokens: &'t [Token<'a>]) -> Result<(Written<'a>, &'t [Token<'a>]), Stop>
-    ensures { MatchResult result (λ r. map token_of tokens.now ≡ Name (written r.0) ∷ map token_of r.1.now) (λ e. Misses AnyName (map token_of tokens.now) e) }
-{
-    match name(tokens) {
-        Some(found) => Ok(found),
-        None => Err(Stop::At(tokens.len())),
-    }
-}
