@@ -1,14 +1,15 @@
 -- Which right sides a code reads, and derivations over kinds.
 use Rattle.std.proofs.Common.{◌≡◌, ◌⊎◌, ℕ, zero, suc, ◌+◌, ◌≤◌, List, [], ◌∷◌, ◌++◌, refl, sym, ap, ◌∙◌, arith, append_assoc}
-use Rattle.topos_text.specs.Tokens.{Token, Written, Name}
+use Rattle.topos_text.specs.Tokens.{Token, Written, Name, Place}
 use Rattle.topos_text.specs.Phrases.{Part, token, type, term, site, statement}
 use Rattle.topos_text.specs.Phrases as phrase
 use Rattle.topos_text.specs.Types.{TypeSide}
 use Rattle.topos_text.specs.Terms.{TermSide}
 use Rattle.topos_text.specs.SiteStatements.{SiteSide}
+use Rattle.topos_text.specs.Statements.{StatementSide}
 use Rattle.topos_text.specs.Documents.{Derives, nothing, this, by_type, by_term, by_site, by_statement}
-use Rattle.topos_grammar.specs.Kinds.{Sort, Tree, Kind, AnyType, ProductType, MoreFactors, PrefixType, AnyTerm, Disjunction, MoreDisjuncts, Conjunction, MoreConjuncts, Negation, BinderTerm, Comparison, Application, MoreArguments, Atom, Parentheses, Context, ArrowName, SiteStatement, Cover, part, Side}
-use Rattle.topos_grammar.specs.Codes.{Code, give, eat, name, call, peek, loop}
+use Rattle.topos_grammar.specs.Kinds.{Sort, Tree, Kind, AnyType, ProductType, MoreFactors, PrefixType, AnyTerm, Disjunction, MoreDisjuncts, Conjunction, MoreConjuncts, Negation, BinderTerm, Comparison, Application, MoreArguments, Atom, Parentheses, Context, ArrowName, SiteStatement, Cover, part, Side, Covers, Topology, Section, Element, MapAt, Sent}
+use Rattle.topos_grammar.specs.Codes.{Code, give, eat, name, call, peek, loop, place}
 
 -- the parts are those of the items, one behind the other
 abbrev pub All : {A : Type 0} → (A → List Part → Type 0) → List A → List Part → Type 0
@@ -20,6 +21,7 @@ abbrev pub Accepts : {s : Sort} → Code s → Tree s → List Part → Type 0
 Accepts (give v) t side = (t ≡ v) × (side ≡ [])
 Accepts (eat u k) t side = (rest : List Part) × (side ≡ token u ∷ rest) × Accepts k t rest
 Accepts (name k) t side = (x : Written) × (rest : List Part) × (side ≡ token (Name x) ∷ rest) × Accepts (k x) t rest
+Accepts (place k) t side = (n : ℕ) × (x : Written) × (rest : List Part) × (side ≡ token (Place n x) ∷ rest) × Accepts (k n x) t rest
 Accepts (call {u = u} K k) t side = (v : Tree u) × (rest : List Part) × (side ≡ part K v ∷ rest) × Accepts (k v) t rest
 Accepts (peek C a b) t side = Accepts a t side ⊎ Accepts b t side
 Accepts (loop {u = u} C item k) t side = (vs : List (Tree u)) × (front : List Part) × (rest : List Part) × (side ≡ front ++ rest) × All (λ v z. Accepts item v z) vs front × Accepts (k vs) t rest
@@ -46,6 +48,12 @@ derive_by Context v r d f = by_term r d f
 derive_by ArrowName v r d f = by_site r d f
 derive_by SiteStatement v r d f = by_site r d f
 derive_by Cover v r d f = by_site r d f
+derive_by Covers v r d f = by_site r d f
+derive_by Topology v r d f = by_site r d f
+derive_by Section v r d f = by_statement r d f
+derive_by Element v r d f = by_statement r d f
+derive_by MapAt v r d f = by_statement r d f
+derive_by Sent v r d f = by_statement r d f
 
 -- how many steps a derivation has
 unfoldable pub size : {ps : List Part} {xs : List Token} → Derives ps xs → ℕ
@@ -87,6 +95,12 @@ undone_term n K v N ps zs is to (by_term {side = side} {xs = xs} {ys = ys} r d f
     let m = less_of n (size d) (size f) le in
     record { less = m.0; is_less = m.1; side = side; front = xs; rest = ys; parts = refl; right_side = to side r; first = (d, m.2); others = (f, m.3) }
 
+undone_statement : {s : Sort} (n : ℕ) (K : Kind s) (v : Tree s) (N : phrase.StatementPhrase) (ps : List Part) (zs : List Token) → part K v ≡ statement N → ((side : List Part) → StatementSide N side → Side K v side) → (d : Derives (statement N ∷ ps) zs) → size d ≤ n → Undone n K v ps zs
+unfolding size
+undone_statement n K v N ps zs is to (by_statement {side = side} {xs = xs} {ys = ys} r d f) le =
+    let m = less_of n (size d) (size f) le in
+    record { less = m.0; is_less = m.1; side = side; front = xs; rest = ys; parts = refl; right_side = to side r; first = (d, m.2); others = (f, m.3) }
+
 undone_site : {s : Sort} (n : ℕ) (K : Kind s) (v : Tree s) (N : phrase.SitePhrase) (ps : List Part) (zs : List Token) → part K v ≡ site N → ((side : List Part) → SiteSide N side → Side K v side) → (d : Derives (site N ∷ ps) zs) → size d ≤ n → Undone n K v ps zs
 unfolding size
 undone_site n K v N ps zs is to (by_site {side = side} {xs = xs} {ys = ys} r d f) le =
@@ -114,6 +128,12 @@ undone n Context v ps zs w = undone_term n Context v (phrase.Context v) ps zs re
 undone n ArrowName v ps zs w = undone_site n ArrowName v (phrase.ArrowName v) ps zs refl (λ side r. r) w.0 w.1
 undone n SiteStatement v ps zs w = undone_site n SiteStatement v (phrase.SiteStatement v) ps zs refl (λ side r. r) w.0 w.1
 undone n Cover v ps zs w = undone_site n Cover v (phrase.Cover v) ps zs refl (λ side r. r) w.0 w.1
+undone n Covers v ps zs w = undone_site n Covers v (phrase.Covers v) ps zs refl (λ side r. r) w.0 w.1
+undone n Topology v ps zs w = undone_site n Topology v (phrase.Topology v) ps zs refl (λ side r. r) w.0 w.1
+undone n Section v ps zs w = undone_statement n Section v (phrase.Section v) ps zs refl (λ side r. r) w.0 w.1
+undone n Element v ps zs w = undone_statement n Element v (phrase.Element v) ps zs refl (λ side r. r) w.0 w.1
+undone n MapAt v ps zs w = undone_statement n MapAt v (phrase.MapAt v) ps zs refl (λ side r. r) w.0 w.1
+undone n Sent v ps zs w = undone_statement n Sent v (phrase.Sent v) ps zs refl (λ side r. r) w.0 w.1
 
 -- a derivation that begins with a token, undone
 pub record Taken (n : ℕ) (u : Token) (ps : List Part) (zs : List Token) : Type 0 where

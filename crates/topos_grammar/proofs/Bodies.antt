@@ -1,12 +1,12 @@
 -- What does not stand behind a term that ends with the body of a binder, once it is read.
-use Rattle.std.proofs.Common.{◌≡◌, Bool, true, false, List, [], ◌∷◌, refl}
+use Rattle.std.proofs.Common.{◌≡◌, Bool, true, false, List, [], ◌∷◌, refl, ℕ}
 use Rattle.topos_text.specs.declared.word.Word.TheVariants as word
 use Rattle.topos_text.specs.Tokens.{Token, Written}
 use Rattle.topos_text.specs.Trees.{TermTree, Binder, Forall, Exists, Unique, Fun}
 use Rattle.topos_text.specs.Terms.{ends_with_body}
-use Rattle.topos_grammar.specs.Kinds.{Sort, Tree, Kind, AnyType, ProductType, MoreFactors, PrefixType, AnyTerm, Disjunction, MoreDisjuncts, Conjunction, MoreConjuncts, Negation, BinderTerm, Comparison, Application, MoreArguments, Atom, Parentheses, Context, ArrowName, SiteStatement, Cover}
-use Rattle.topos_grammar.specs.Codes.{Is, the, Code, give, eat, name, call, peek, loop, code, bound}
-use Rattle.topos_grammar.specs.Reading.{Read, Whole, Stops, Reading, gives, eats, eats_not, names, names_not, calls, calls_not, peeks, peeks_not, loops, loops_not, loops_end, Closed, Ready}
+use Rattle.topos_grammar.specs.Kinds.{Sort, Tree, Kind, AnyType, ProductType, MoreFactors, PrefixType, AnyTerm, Disjunction, MoreDisjuncts, Conjunction, MoreConjuncts, Negation, BinderTerm, Comparison, Application, MoreArguments, Atom, Parentheses, Context, ArrowName, SiteStatement, Cover, Covers, Topology, Section, Element, MapAt, Sent}
+use Rattle.topos_grammar.specs.Codes.{Is, the, Code, give, eat, name, call, peek, loop, code, bound, place}
+use Rattle.topos_grammar.specs.Reading.{Read, Whole, Stops, Reading, gives, eats, eats_not, names, names_not, calls, calls_not, peeks, peeks_not, loops, loops_not, loops_end, Closed, Ready, places, places_not}
 use Rattle.topos_grammar.proofs.Sides.{more_disjuncts, more_conjuncts, after_disjunction}
 
 -- what holds of the tokens behind a phrase that was read
@@ -30,6 +30,7 @@ abbrev Post : {s : Sort} → Code s → (List Token → Type 0) → (Tree s → 
 Post (give v) S Q = (ts : List Token) → S ts → Q v ts
 Post (eat u k) S Q = Post k (λ ts. Unit {0}) Q
 Post (name k) S Q = (x : Written) → Post (k x) (λ ts. Unit {0}) Q
+Post (place k) S Q = (n : ℕ) (x : Written) → Post (k n x) (λ ts. Unit {0}) Q
 Post (call {u = u} K k) S Q = ((ts : List Token) → S ts → Ready K ts) × ((v : Tree u) → Post (k v) (After K v) Q)
 Post (peek C a b) S Q = Post a (λ ts. S ts × Is C ts) Q × Post b (λ ts. S ts × (Is C ts → ⊥)) Q
 Post (loop {u = u} C item k) S Q = (vs : List (Tree u)) → Post (k vs) (λ ts. Unit {0}) Q
@@ -88,6 +89,12 @@ post_of Context = ((λ x. ((λ ts h. tt), λ T vs ts h. tt)), λ ts h. tt)
 post_of ArrowName = ((λ x ts h. tt), λ f ts h. tt)
 post_of SiteStatement = ((λ x xs ts h. tt), ((λ f fs d c ts h. tt), λ g f. ((λ ts h. tt), λ h ts k. tt)))
 post_of Cover = λ x. ((λ ts h. tt), ((λ ts h. tt), λ f fs ts h. tt))
+post_of Covers = ((λ ts h. tt), λ cs ts h. tt)
+post_of Topology = λ j. ((λ ts h. tt), λ cs ts h. tt)
+post_of Section = ((λ u x xs ts h. tt), λ f a b es ts h. tt)
+post_of Element = ((λ x ts h. tt), λ n x ts h. tt)
+post_of MapAt = λ u. ((λ ts h. tt), λ a. ((λ ts h. tt), λ b es ts h. tt))
+post_of Sent = ((λ d c ts h. tt), λ u. ((λ ts h. tt), λ f ts h. tt))
 
 abbrev Held : {s : Sort} → Read s → (Tree s → List Token → Type 0) → Type 0
 Held (Whole v rest) Q = Q v rest
@@ -99,6 +106,8 @@ held S Q (eats d) p h = held (λ ts. Unit {0}) Q d p tt
 held S Q (eats_not other) p h = tt
 held S Q (names {x = x} d) p h = held (λ ts. Unit {0}) Q d (p x) tt
 held S Q (names_not other) p h = tt
+held S Q (places {n = n} {x = x} d) p h = held (λ ts. Unit {0}) Q d (p n x) tt
+held S Q (places_not other) p h = tt
 held S Q (calls {K = K} {v = v} {toks = toks} d e) p h = held (After K v) Q e (p.1 v) (held (Ready K) (After K) d (post_of K) (p.0 toks h))
 held S Q (calls_not d) p h = tt
 held S Q (peeks {C = C} is d) p h = held (λ ts. S ts × Is C ts) Q d p.0 (h, is)

@@ -2,16 +2,16 @@
 use Rattle.std.proofs.Common.{◌≡◌, ◌⊎◌, inl, inr, ℕ, zero, suc, ◌<◌, ◌≤◌, Bool, true, false, List, [], ◌∷◌, ◌++◌, refl, sym, ap, subst, ◌∙◌, arith, append_assoc}
 use Rattle.topos_text.specs.declared.word.Word.TheVariants as word
 use Rattle.topos_text.specs.declared.symbol.Symbol.TheVariants as symbol
-use Rattle.topos_text.specs.Tokens.{Token, Written, Name, Reserved, Sign}
+use Rattle.topos_text.specs.Tokens.{Token, Written, Name, Reserved, Sign, Place}
 use Rattle.topos_text.specs.Trees.{TypeTree, TermTree, Binding, Binder, Forall, Exists, Unique, Fun}
 use Rattle.topos_text.specs.Trees as tree
 use Rattle.topos_text.specs.Phrases.{Part, token}
 use Rattle.topos_text.specs.Terms.{ends_with_body}
 use Rattle.topos_text.specs.Documents.{Derives}
-use Rattle.topos_grammar.specs.Kinds.{Sort, OfBinding, OfContext, Tree, Kind, AnyType, ProductType, MoreFactors, PrefixType, AnyTerm, Disjunction, MoreDisjuncts, Conjunction, MoreConjuncts, Negation, BinderTerm, Comparison, Application, MoreArguments, Atom, Parentheses, Context, part, Side, ArrowName, SiteStatement, Cover}
-use Rattle.topos_grammar.specs.Codes.{AnyName, Class, This, Is, the, sign, binders, Code, give, eat, name, call, peek, loop, code, bound, bind, eat_sign}
+use Rattle.topos_grammar.specs.Kinds.{Sort, OfBinding, OfContext, Tree, Kind, AnyType, ProductType, MoreFactors, PrefixType, AnyTerm, Disjunction, MoreDisjuncts, Conjunction, MoreConjuncts, Negation, BinderTerm, Comparison, Application, MoreArguments, Atom, Parentheses, Context, part, Side, ArrowName, SiteStatement, Cover, Covers, Topology, Section, Element, MapAt, Sent}
+use Rattle.topos_grammar.specs.Codes.{AnyName, Class, This, Is, the, sign, binders, Code, give, eat, name, call, peek, loop, code, bound, bind, eat_sign, place}
 use Rattle.topos_grammar.specs.Follows.{type_level, level, limit, Follow}
-use Rattle.topos_grammar.specs.Reading.{Whole, Reading, gives, eats, names, calls, peeks, peeks_not, loops, loops_end}
+use Rattle.topos_grammar.specs.Reading.{Whole, Reading, gives, eats, names, calls, peeks, peeks_not, loops, loops_end, places}
 use Rattle.topos_grammar.proofs.Accepting.{Accepts, All, Sized, undone, taken, none, cut_at, size}
 use Rattle.topos_grammar.proofs.Sides.{accepts_side, more_disjuncts, more_conjuncts, after_disjunction}
 use Rattle.topos_grammar.proofs.Fronts.{begins_atom, BeginsTerm, Leads, sized_by, leads_to, leads_always}
@@ -25,6 +25,7 @@ abbrev pub Fits : {s : Sort} → Code s → (Tree s → List Token → Type 0) �
 Fits (give v) F = Unit {0}
 Fits (eat u k) F = Fits k F
 Fits (name k) F = (x : Written) → Fits (k x) F
+Fits (place k) F = (n : ℕ) (x : Written) → Fits (k n x) F
 Fits (call {u = u} K k) F = (v : Tree u) → Fits (k v) F × Leads (k v) (Follow K v) (λ t. (ys : List Token) → F t ys → Follow K v ys)
 Fits (peek C a b) F = Fits a F × Fits b F × Leads a (Is C) (λ t. (ys : List Token) → F t ys → Is C ys) × Leads b (λ ts. Is C ts → ⊥) (λ t. (ys : List Token) → F t ys → Is C ys → ⊥)
 Fits (loop {u = u} C item k) F = ((vs : List (Tree u)) → Fits (k vs) F × Leads (k vs) (λ ts. Is C ts → ⊥) (λ t. (ys : List Token) → F t ys → Is C ys → ⊥)) × Leads item (Is C) (λ a. ⊥) × Fits item (λ a ys. Is C ys ⊎ Ends k F ys)
@@ -237,6 +238,23 @@ fits_of Cover = λ x. (
   λ ts. (ts, refl),
   (λ ts h is. arrow_not_none ts h is, λ v e. absurd e),
 )
+fits_of Covers = (
+  tt,
+  ((λ cs. (tt, λ ys h is. h.1 is)), (λ ts h. h, λ v e. absurd e), λ c. (tt, λ ts. (ts, refl))),
+  λ ts. (ts, refl),
+  (λ ts h is. cc, (λ ts h. h, λ v e. absurd e), λ ys h is. h.0 is),
+)
+fits_of Topology = λ j. (tt, ((λ cs. (tt, λ ts is. cc)), (λ ts h. h, λ v e. absurd e), λ c. (tt, λ ts. (ts, refl))), λ ts. (ts, refl), λ ts is. cc)
+fits_of Section = (
+  (λ u x. ((λ xs. (tt, λ ys h is. cc)), λ ts. (ts, refl), λ y. tt)),
+  (λ f a b. ((λ es. (tt, λ ys h is. cc)), λ ts. (ts, refl), λ c d. tt)),
+  λ ts. (ts, refl),
+  λ ts is. cc,
+)
+fits_of Element = ((λ x. tt), (λ n x. tt), λ x ts. (x, ts, refl), λ n x ts is. cc)
+fits_of MapAt = λ u a.
+    ((λ b. (((λ es. (tt, λ ys h is. cc)), λ ts. (ts, refl), λ c. ((λ d. (tt, λ ys g. tt)), λ ts. tt)), (λ ts h. tt, λ ts. (ts, refl), λ ys h. tt))), λ ts. tt)
+fits_of Sent = ((λ d c. tt), (λ u f. (tt, λ ys h. tt)), λ ts. (ts, refl), λ ts is. cc)
 
 -- ---- what derives is read
 
@@ -274,6 +292,9 @@ read_code n ih {s = s} (eat u k) F v side xs zs fits (rest, e, acc) w follows =
 read_code n ih {s = s} (name k) F v side xs zs fits (x, rest, e, acc) w follows =
     let t = taken n (Name x) rest xs (sized_by n side (token (Name x) ∷ rest) xs e w) in
     subst (λ z. Reading s (name k) (z ++ zs) (Whole v zs)) (sym t.parts) (names (ih t.less t.is_less s (k x) F v rest t.rest zs (fits x) acc t.others follows))
+read_code n ih {s = s} (place k) F v side xs zs fits (i, x, rest, e, acc) w follows =
+    let t = taken n (Place i x) rest xs (sized_by n side (token (Place i x) ∷ rest) xs e w) in
+    subst (λ z. Reading s (place k) (z ++ zs) (Whole v zs)) (sym t.parts) (places (ih t.less t.is_less s (k i x) F v rest t.rest zs (fits i x) acc t.others follows))
 read_code n ih {s = s} (call {u = r} K k) F v side xs zs fits (a, rest, e, acc) w follows =
     let u = undone n K a rest xs (sized_by n side (part K a ∷ rest) xs e w) in
     subst (λ z. Reading s (call K k) z (Whole v zs)) (sym (append_assoc u.front u.rest zs) ∙ ap (λ z. z ++ zs) (sym u.parts))

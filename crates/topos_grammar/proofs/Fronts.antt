@@ -2,12 +2,13 @@
 use Rattle.std.proofs.Common.{◌≡◌, ◌⊎◌, inl, inr, ℕ, zero, suc, Bool, true, false, List, [], ◌∷◌, ◌++◌, refl, sym, ap, subst, ◌∙◌, arith, append_assoc}
 use Rattle.topos_text.specs.declared.word.Word.TheVariants as word
 use Rattle.topos_text.specs.declared.symbol.Symbol.TheVariants as symbol
-use Rattle.topos_text.specs.Tokens.{Token, Written, Name, Reserved, Sign}
+use Rattle.topos_text.specs.Tokens.{Token, Written, Name, Reserved, Sign, Place}
 use Rattle.topos_text.specs.Trees.{TermTree}
+use Rattle.topos_text.specs.Trees as tree
 use Rattle.topos_text.specs.Phrases.{Part, token}
 use Rattle.topos_text.specs.Terms.{ends_with_body}
-use Rattle.topos_grammar.specs.Kinds.{Sort, Tree, Kind, AnyType, ProductType, MoreFactors, PrefixType, AnyTerm, Disjunction, MoreDisjuncts, Conjunction, MoreConjuncts, Negation, BinderTerm, Comparison, Application, MoreArguments, Atom, Parentheses, Context, part, ArrowName, SiteStatement, Cover}
-use Rattle.topos_grammar.specs.Codes.{AnyName, Is, the, sign, binders, Code, give, eat, name, call, peek, loop, code}
+use Rattle.topos_grammar.specs.Kinds.{Sort, Tree, Kind, AnyType, ProductType, MoreFactors, PrefixType, AnyTerm, Disjunction, MoreDisjuncts, Conjunction, MoreConjuncts, Negation, BinderTerm, Comparison, Application, MoreArguments, Atom, Parentheses, Context, part, ArrowName, SiteStatement, Cover, Covers, Topology, Section, Element, MapAt, Sent}
+use Rattle.topos_grammar.specs.Codes.{AnyName, Is, the, sign, binders, Code, give, eat, name, call, peek, loop, code, place, AnyPlace}
 use Rattle.topos_grammar.proofs.Accepting.{Accepts, Sized, undone, taken, none, cut_at}
 use Rattle.topos_grammar.proofs.Sides.{accepts_side, more_disjuncts, more_conjuncts}
 
@@ -55,6 +56,12 @@ Heads Context ts = Is AnyName ts
 Heads ArrowName ts = Is (the word.Id) ts ⊎ Is AnyName ts
 Heads SiteStatement ts = Is (the word.Object) ts ⊎ (Is (the word.Arrow) ts ⊎ Is (the word.Compose) ts)
 Heads Cover ts = Is (the word.Cover) ts
+Heads Covers ts = Is (the word.Topology) ts ⊎ Is (the word.Cover) ts
+Heads Topology ts = Is (the word.Topology) ts
+Heads Section ts = Is (the word.At) ts ⊎ Is (the word.Along) ts
+Heads Element ts = Is AnyName ts ⊎ Is AnyPlace ts
+Heads MapAt ts = Is (the word.At) ts
+Heads Sent ts = Is (the word.At) ts ⊎ Is (the word.Along) ts
 
 -- the phrase of the kind with the tree may have no token
 abbrev pub Empty : {s : Sort} → Kind s → Tree s → Type 0
@@ -63,6 +70,7 @@ Empty (MoreDisjuncts r) t = t ≡ r
 Empty (MoreConjuncts r) t = t ≡ r
 Empty (MoreArguments r) t = t ≡ r
 Empty Context t = t ≡ []
+Empty Covers t = t ≡ tree.Listed []
 Empty _ t = ⊥
 
 -- What the code reads begins with tokens that pass P, or it has no token and the tree passes E.
@@ -70,6 +78,7 @@ abbrev pub Leads : {s : Sort} → Code s → (List Token → Type 0) → (Tree s
 Leads (give v) P E = E v
 Leads (eat u k) P E = (ts : List Token) → P (u ∷ ts)
 Leads (name k) P E = (x : Written) (ts : List Token) → P (Name x ∷ ts)
+Leads (place k) P E = (n : ℕ) (x : Written) (ts : List Token) → P (Place n x ∷ ts)
 Leads (call {u = u} K k) P E = ((ts : List Token) → Heads K ts → P ts) × ((v : Tree u) → Empty K v → Leads (k v) P E)
 Leads (peek C a b) P E = Leads a P E × Leads b P E
 Leads (loop C item k) P E = ((ts : List Token) → Is C ts → P ts) × Leads item (Is C) (λ v. ⊥) × Leads (k []) P E
@@ -109,6 +118,12 @@ leads_of Context = (λ x ts. (x, ts, refl), refl)
 leads_of ArrowName = (λ ts. inl (ts, refl), λ x ts. inr (x, ts, refl))
 leads_of SiteStatement = (λ ts. inl (ts, refl), (λ ts. inr (inl (ts, refl)), λ ts. inr (inr (ts, refl))))
 leads_of Cover = λ ts. (ts, refl)
+leads_of Covers = (λ ts. inl (ts, refl), (λ ts h. inr h, (λ ts h. h, λ v e. absurd e), refl))
+leads_of Topology = λ ts. (ts, refl)
+leads_of Section = (λ ts. inl (ts, refl), λ ts. inr (ts, refl))
+leads_of Element = (λ x ts. inl (x, ts, refl), λ n x ts. inr (n, x, ts, refl))
+leads_of MapAt = λ ts. (ts, refl)
+leads_of Sent = (λ ts. inl (ts, refl), λ ts. inr (ts, refl))
 
 abbrev LeadsAll : ℕ → Type 1
 LeadsAll n = (s : Sort) (c : Code s) (P : List Token → Type 0) (E : Tree s → Type 0) (v : Tree s) (side : List Part) (xs : List Token) → Leads c P E → Accepts c v side → Sized n side xs → Led xs P (E v)
@@ -130,6 +145,9 @@ at_code n ih (eat u k) P E v side xs lead (rest, e, acc) w =
 at_code n ih (name k) P E v side xs lead (x, rest, e, acc) w =
     let t = taken n (Name x) rest xs (sized_by n side (token (Name x) ∷ rest) xs e w) in
     inl (λ zs. subst P (ap (λ z. z ++ zs) (sym t.parts)) (lead x (t.rest ++ zs)))
+at_code n ih (place k) P E v side xs lead (i, x, rest, e, acc) w =
+    let t = taken n (Place i x) rest xs (sized_by n side (token (Place i x) ∷ rest) xs e w) in
+    inl (λ zs. subst P (ap (λ z. z ++ zs) (sym t.parts)) (lead i x (t.rest ++ zs)))
 at_code n ih {s = s} (call {u = r} K k) P E v side xs lead (a, rest, e, acc) w =
     let u = undone n K a rest xs (sized_by n side (part K a ∷ rest) xs e w) in
     elim (ih u.less u.is_less r (code K) (Heads K) (Empty K) a u.side u.front (leads_of K) (accepts_side K a u.side u.right_side) u.first) [

@@ -6,17 +6,18 @@ use Rattle.topos_text.specs.declared.symbol.Symbol.TheVariants as symbol
 use Rattle.topos_text.specs.Tokens.{Token, Written, Name, Reserved, Sign}
 use Rattle.topos_text.specs.Trees.{TypeTree, TermTree, Binding, Binder, Forall, Exists, Unique, Fun}
 use Rattle.topos_text.specs.Trees as tree
-use Rattle.topos_text.specs.Phrases.{Part, token, type, term, site, commas, names, binding}
+use Rattle.topos_text.specs.Phrases.{Part, token, type, term, site, statement, commas, each, names, binding}
 use Rattle.topos_text.specs.Phrases as phrase
 use Rattle.topos_text.specs.Types.{TypeSide}
 use Rattle.topos_text.specs.Types as types
 use Rattle.topos_text.specs.Terms.{TermSide, ends_with_body, binder_word}
 use Rattle.topos_text.specs.Terms as terms
 use Rattle.topos_text.specs.SiteStatements as sites
-use Rattle.topos_text.specs.Documents.{Derives, nothing, this, by_type, by_term}
-use Rattle.topos_text.proofs.DerivationParts.{whole_type, whole_term, whole_site}
-use Rattle.topos_grammar.specs.Kinds.{Sort, OfTerm, OfBinding, OfName, OfArrow, Tree, Kind, AnyType, ProductType, MoreFactors, PrefixType, AnyTerm, Disjunction, MoreDisjuncts, Conjunction, MoreConjuncts, Negation, BinderTerm, Comparison, Application, MoreArguments, Atom, Parentheses, Context, ArrowName, SiteStatement, Cover, part, Side}
-use Rattle.topos_grammar.specs.Codes.{the, sign, Code, give, name, call, peek, code, unless, eat_word, eat_sign, bind, bound}
+use Rattle.topos_text.specs.Statements as statements
+use Rattle.topos_text.specs.Documents.{Derives, nothing, this, by_type, by_term, by_statement}
+use Rattle.topos_text.proofs.DerivationParts.{whole_type, whole_term, whole_site, whole_statement}
+use Rattle.topos_grammar.specs.Kinds.{Sort, OfTerm, OfBinding, OfName, OfArrow, Tree, Kind, AnyType, ProductType, MoreFactors, PrefixType, AnyTerm, Disjunction, MoreDisjuncts, Conjunction, MoreConjuncts, Negation, BinderTerm, Comparison, Application, MoreArguments, Atom, Parentheses, Context, ArrowName, SiteStatement, Cover, part, Side, Covers, Topology, Section, Element, MapAt, Sent, OfCover, OfEntry, OfMapping}
+use Rattle.topos_grammar.specs.Codes.{the, sign, Code, give, name, call, peek, code, unless, eat_word, eat_sign, bind, bound, entry, mapping}
 use Rattle.topos_grammar.proofs.Accepting.{Accepts, All}
 
 abbrev pub after_disjunction : Bool → TermTree → Code OfTerm
@@ -67,6 +68,29 @@ name_item v f (r1, e1, (x, r2, e2, (e3, e4))) = rw (e1, e2, e4, e3) refl
 
 arrow_item : (v : tree.ArrowTree) (f : List Part) → Accepts {s = OfArrow} (eat_sign symbol.Comma (call ArrowName (λ g. give g))) v f → f ≡ token (Sign symbol.Comma) ∷ site (phrase.ArrowName v) ∷ []
 arrow_item v f (r1, e1, (x, r2, e2, (e3, e4))) = rw (e1, e2, e4, e3) refl
+
+entry_item : (v : tree.EntryTree) (f : List Part) → Accepts {s = OfEntry} (eat_sign symbol.Comma (entry (λ g. give g))) v f → f ≡ token (Sign symbol.Comma) ∷ statements.entry v
+entry_item v f (r1, e1, (x, r2, e2, (r3, e3, (y, r4, e4, (e5, e6))))) = rw (e1, e2, e3, e4, e6, e5) refl
+
+mapping_item : (v : tree.MappingTree) (f : List Part) → Accepts {s = OfMapping} (eat_sign symbol.Comma (mapping (λ g. give g))) v f → f ≡ token (Sign symbol.Comma) ∷ statements.mapping v
+mapping_item v f (r1, e1, (x, r2, e2, (r3, e3, (y, r4, e4, (e5, e6))))) = rw (e1, e2, e3, e4, e6, e5) refl
+
+cover_item : (v : tree.CoverTree) (f : List Part) → Accepts {s = OfCover} (call Cover (λ c. eat_sign symbol.Semicolon (give c))) v f → f ≡ site (phrase.Cover v) ∷ token (Sign symbol.Semicolon) ∷ []
+cover_item v f (x, r1, e1, (r2, e2, (e3, e4))) = rw (e1, e2, e4, e3) refl
+
+-- items, each with a semicolon
+separated : {A : Type 0} (X : A → Part) (P : A → List Part → Type 0) → ((v : A) (f : List Part) → P v f → f ≡ X v ∷ token (Sign symbol.Semicolon) ∷ []) → (vs : List A) (front : List Part) → All P vs front → front ≡ each X vs
+unfolding each
+separated X P item [] front e = e
+separated X P item (v ∷ vs) front (f1, f2, e, one, all) = e ∙ ap (λ z. z ++ f2) (item v f1 one) ∙ ap (λ z. X v ∷ token (Sign symbol.Semicolon) ∷ z) (separated X P item vs f2 all)
+
+append_nil_to : (front : List Part) {side : List Part} → front ≡ side → front ++ [] ≡ side
+append_nil_to front e = append-nil front ∙ e
+
+covers_side : (cs : List tree.CoverTree) → sites.SiteSide (phrase.Covers (tree.Listed cs)) (each (λ z. site (phrase.Cover z)) cs)
+unfolding each
+covers_side [] = sites.no_cover
+covers_side (c ∷ cs) = sites.covers
 
 -- a right side that a code reads is one of the phrase
 pub side_of : {s : Sort} (K : Kind s) (v : Tree s) (side : List Part) → Accepts (code K) v side → Side K v side
@@ -132,6 +156,35 @@ side_of Cover t side (r1, e1, (x, r2, e2, (r3, e3, inr (f, r4, e4, (fs, front, r
     let whole : side ≡ token (Reserved word.Cover) ∷ token (Name x) ∷ token (Reserved word.By) ∷ commas (λ g. site (phrase.ArrowName g) ∷ []) f fs =
     rw (e1, e2, e3, e4, e5, e6) (ap (λ z. token (Reserved word.Cover) ∷ token (Name x) ∷ token (Reserved word.By) ∷ site (phrase.ArrowName f) ∷ z) (append-nil front) ∙ ap (λ z. token (Reserved word.Cover) ∷ token (Name x) ∷ token (Reserved word.By) ∷ z) list) in
     rw (whole, e) sites.cover_by
+side_of Covers t side (inl (r1, e1, (r2, e2, (r3, e3, (e, e4))))) = rw (e1, e2, e3, e4, e) sites.dense
+side_of Covers t side (inr (cs, front, rest, e1, all, (e, e2))) =
+    let whole : side ≡ each (λ z. site (phrase.Cover z)) cs = rw (e1, e2) (append_nil_to front (separated (λ z. site (phrase.Cover z)) _ cover_item cs front all)) in
+    rw (whole, e) (covers_side cs)
+side_of Topology t side (r1, e1, (j, r2, e2, inl (r3, e3, (r4, e4, (e, e5))))) = rw (e1, e2, e3, e4, e5, e) sites.dense_topology
+side_of Topology t side (r1, e1, (j, r2, e2, inr (r3, e3, (cs, front, rest, e4, all, (r5, e5, (e, e6)))))) =
+    let list : front ≡ each (λ z. site (phrase.Cover z)) cs = separated (λ z. site (phrase.Cover z)) _ cover_item cs front all in
+    rw (e1, e2, e3, e4, list, e5, e6, e) sites.listed_topology
+side_of Section t side (inl (r1, e1, (u, r2, e2, (r3, e3, (x, r4, e4, (xs, front, rest, e5, all, (e, e6))))))) =
+    let list : token (Name x) ∷ front ≡ names x xs = listed (λ z. token (Name z) ∷ []) _ name_item xs front all x in
+    let whole : side ≡ token (Reserved word.At) ∷ token (Name u) ∷ token (Sign symbol.Colon) ∷ names x xs =
+    rw (e1, e2, e3, e4, e5, e6) (ap (λ z. token (Reserved word.At) ∷ token (Name u) ∷ token (Sign symbol.Colon) ∷ token (Name x) ∷ z) (append-nil front) ∙ ap (λ z. token (Reserved word.At) ∷ token (Name u) ∷ token (Sign symbol.Colon) ∷ z) list) in
+    rw (whole, e) statements.at
+side_of Section t side (inr (r1, e1, (f, r2, e2, (r3, e3, (a, r4, e4, (r5, e5, (b, r6, e6, (es, front, rest, e7, all, (e, e8))))))))) =
+    let first : tree.EntryTree = record { from = a; to = b } in
+    let list : statements.entry first ++ front ≡ commas statements.entry first es = listed statements.entry _ entry_item es front all first in
+    let whole : side ≡ token (Reserved word.Along) ∷ token (Name f) ∷ token (Sign symbol.Colon) ∷ commas statements.entry first es =
+    rw (e1, e2, e3, e4, e5, e6, e7, e8) (ap (λ z. token (Reserved word.Along) ∷ token (Name f) ∷ token (Sign symbol.Colon) ∷ statements.entry first ++ z) (append-nil front) ∙ ap (λ z. token (Reserved word.Along) ∷ token (Name f) ∷ token (Sign symbol.Colon) ∷ z) list) in
+    rw (whole, e) statements.along
+side_of Element t side (inl (x, r1, e1, (e, e2))) = rw (e1, e2, e) statements.by_name
+side_of Element t side (inr (n, x, r1, e1, (e, e2))) = rw (e1, e2, e) statements.by_place
+side_of MapAt t side (r1, e1, (u, r2, e2, (r3, e3, (a, r4, e4, (r5, e5, (b, r6, e6, (es, front, rest, e7, all, (e, e8)))))))) =
+    let first : tree.MappingTree = record { from = a; to = b } in
+    let list : statements.mapping first ++ front ≡ commas statements.mapping first es = listed statements.mapping _ mapping_item es front all first in
+    let whole : side ≡ token (Reserved word.At) ∷ token (Name u) ∷ token (Sign symbol.Colon) ∷ commas statements.mapping first es =
+    rw (e1, e2, e3, e4, e5, e6, e7, e8) (ap (λ z. token (Reserved word.At) ∷ token (Name u) ∷ token (Sign symbol.Colon) ∷ statements.mapping first ++ z) (append-nil front) ∙ ap (λ z. token (Reserved word.At) ∷ token (Name u) ∷ token (Sign symbol.Colon) ∷ z) list) in
+    rw (whole, e) statements.map_at
+side_of Sent t side (inl (r1, e1, (d, r2, e2, (r3, e3, (c, r4, e4, (e, e5)))))) = rw (e1, e2, e3, e4, e5, e) statements.object_to
+side_of Sent t side (inr (r1, e1, (u, r2, e2, (r3, e3, (f, r4, e4, (e, e5)))))) = rw (e1, e2, e3, e4, e5, e) statements.arrow_to
 
 -- ---- the other way
 
@@ -208,6 +261,45 @@ unfolding commas
 arrows_commas f [] = refl
 arrows_commas f (v ∷ vs) = ap (λ z. site (phrase.ArrowName f) ∷ token (Sign symbol.Comma) ∷ z) (arrows_commas v vs)
 
+abbrev later_entries : List tree.EntryTree → List Part
+later_entries [] = []
+later_entries (v ∷ vs) = (token (Sign symbol.Comma) ∷ statements.entry v) ++ later_entries vs
+
+entries_accepted : (vs : List tree.EntryTree) → All (λ v z. Accepts {s = OfEntry} (eat_sign symbol.Comma (entry (λ g. give g))) v z) vs (later_entries vs)
+entries_accepted [] = refl
+entries_accepted (v ∷ vs) = (token (Sign symbol.Comma) ∷ statements.entry v, later_entries vs, refl, (_, refl, (v.from, _, refl, (_, refl, (v.to, _, refl, (refl, refl))))), entries_accepted vs)
+
+entries_commas : (e : tree.EntryTree) (vs : List tree.EntryTree) → commas statements.entry e vs ≡ statements.entry e ++ later_entries vs
+unfolding commas
+entries_commas e [] = refl
+entries_commas e (v ∷ vs) = ap (λ z. statements.entry e ++ token (Sign symbol.Comma) ∷ z) (entries_commas v vs)
+
+abbrev later_mappings : List tree.MappingTree → List Part
+later_mappings [] = []
+later_mappings (v ∷ vs) = (token (Sign symbol.Comma) ∷ statements.mapping v) ++ later_mappings vs
+
+mappings_accepted : (vs : List tree.MappingTree) → All (λ v z. Accepts {s = OfMapping} (eat_sign symbol.Comma (mapping (λ g. give g))) v z) vs (later_mappings vs)
+mappings_accepted [] = refl
+mappings_accepted (v ∷ vs) = (token (Sign symbol.Comma) ∷ statements.mapping v, later_mappings vs, refl, (_, refl, (v.from, _, refl, (_, refl, (v.to, _, refl, (refl, refl))))), mappings_accepted vs)
+
+mappings_commas : (e : tree.MappingTree) (vs : List tree.MappingTree) → commas statements.mapping e vs ≡ statements.mapping e ++ later_mappings vs
+unfolding commas
+mappings_commas e [] = refl
+mappings_commas e (v ∷ vs) = ap (λ z. statements.mapping e ++ token (Sign symbol.Comma) ∷ z) (mappings_commas v vs)
+
+covers_accepted : (cs : List tree.CoverTree) → All (λ v z. Accepts {s = OfCover} (call Cover (λ c. eat_sign symbol.Semicolon (give c))) v z) cs (each (λ z. site (phrase.Cover z)) cs)
+unfolding each
+covers_accepted [] = refl
+covers_accepted (c ∷ cs) = (site (phrase.Cover c) ∷ token (Sign symbol.Semicolon) ∷ [], each (λ z. site (phrase.Cover z)) cs, refl, (c, _, refl, (_, refl, (refl, refl))), covers_accepted cs)
+
+covers_read : (cs : List tree.CoverTree) (side : List Part) → each (λ z. site (phrase.Cover z)) cs ≡ side → Accepts (code Covers) (tree.Listed cs) side
+unfolding code
+covers_read cs side e = inr (cs, each (λ z. site (phrase.Cover z)) cs, [], sym (append-nil (each (λ z. site (phrase.Cover z)) cs) ∙ e), covers_accepted cs, (refl, refl))
+
+no_each : each (λ z. site (phrase.Cover z)) [] ≡ []
+unfolding each
+no_each = refl
+
 -- each right side of the phrase is read by its code
 pub accepts_side : {s : Sort} (K : Kind s) (v : Tree s) (side : List Part) → Side K v side → Accepts (code K) v side
 unfolding code
@@ -263,6 +355,24 @@ accepts_side SiteStatement t side (sites.arrows {f = f} {dom = d} {cod = c} {fs 
     subst (λ z. Accepts (code SiteStatement) (tree.Arrows (f ∷ fs) d c) z) (ap (λ z. token (Reserved word.Arrow) ∷ z ++ token (Sign symbol.Colon) ∷ token (Name d) ∷ token (Sign symbol.Arrow) ∷ token (Name c) ∷ []) (sym (names_commas f fs)))
     (inr (inl (_, refl, (f, _, refl, (fs, later_names fs, _, refl, names_accepted fs, (_, refl, (d, _, refl, (_, refl, (c, _, refl, (refl, refl))))))))))
 accepts_side SiteStatement t side (sites.composite {g = g} {f = f} {h = h}) = inr (inr (_, refl, (g, _, refl, (_, refl, (f, _, refl, (_, refl, (h, _, refl, (refl, refl))))))))
+accepts_side Covers t side sites.no_cover = covers_read [] [] no_each
+accepts_side Covers t side sites.dense = inl (_, refl, (_, refl, (_, refl, (refl, refl))))
+accepts_side Covers t side (sites.covers {c = c} {cs = cs}) = covers_read (c ∷ cs) (each (λ z. site (phrase.Cover z)) (c ∷ cs)) refl
+accepts_side Topology t side (sites.dense_topology {j = j}) = (_, refl, (j, _, refl, inl (_, refl, (_, refl, (refl, refl)))))
+accepts_side Topology t side (sites.listed_topology {j = j} {cs = cs}) = (_, refl, (j, _, refl, inr (_, refl, (cs, each (λ z. site (phrase.Cover z)) cs, _, refl, covers_accepted cs, (_, refl, (refl, refl))))))
+accepts_side Section t side (statements.at {u = u} {x = x} {xs = xs}) =
+    subst (λ z. Accepts (code Section) (tree.At u (x ∷ xs)) z) (ap (λ z. token (Reserved word.At) ∷ token (Name u) ∷ token (Sign symbol.Colon) ∷ z) (ap (λ z. token (Name x) ∷ z) (append-nil (later_names xs)) ∙ sym (names_commas x xs)))
+    (inl (_, refl, (u, _, refl, (_, refl, (x, _, refl, (xs, later_names xs, [], refl, names_accepted xs, (refl, refl)))))))
+accepts_side Section t side (statements.along {f = f} {e = e} {es = es}) =
+    subst (λ z. Accepts (code Section) (tree.Along f (e ∷ es)) z) (ap (λ z. token (Reserved word.Along) ∷ token (Name f) ∷ token (Sign symbol.Colon) ∷ z) (ap (λ z. statements.entry e ++ z) (append-nil (later_entries es)) ∙ sym (entries_commas e es)))
+    (inr (_, refl, (f, _, refl, (_, refl, (e.from, _, refl, (_, refl, (e.to, _, refl, (es, later_entries es, [], refl, entries_accepted es, (refl, refl)))))))))
+accepts_side Element t side (statements.by_name {x = x}) = inl (x, _, refl, (refl, refl))
+accepts_side Element t side (statements.by_place {n = n} {x = x}) = inr (n, x, _, refl, (refl, refl))
+accepts_side MapAt t side (statements.map_at {u = u} {e = e} {es = es}) =
+    subst (λ z. Accepts (code MapAt) (record { object = u; entries = e ∷ es }) z) (ap (λ z. token (Reserved word.At) ∷ token (Name u) ∷ token (Sign symbol.Colon) ∷ z) (ap (λ z. statements.mapping e ++ z) (append-nil (later_mappings es)) ∙ sym (mappings_commas e es)))
+    (_, refl, (u, _, refl, (_, refl, (e.from, _, refl, (_, refl, (e.to, _, refl, (es, later_mappings es, [], refl, mappings_accepted es, (refl, refl))))))))
+accepts_side Sent t side (statements.object_to {d = d} {c = c}) = inl (_, refl, (d, _, refl, (_, refl, (c, _, refl, (refl, refl)))))
+accepts_side Sent t side (statements.arrow_to {u = u} {f = f}) = inr (_, refl, (u, _, refl, (_, refl, (f, _, refl, (refl, refl)))))
 accepts_side Cover t side (sites.cover_by_none {x = x}) = (_, refl, (x, _, refl, (_, refl, inl (_, refl, (refl, refl)))))
 accepts_side Cover t side (sites.cover_by {x = x} {f = f} {fs = fs}) =
     subst (λ z. Accepts (code Cover) (record { object = x; arrows = f ∷ fs }) z) (ap (λ z. token (Reserved word.Cover) ∷ token (Name x) ∷ token (Reserved word.By) ∷ z) (ap (λ z. site (phrase.ArrowName f) ∷ z) (append-nil (later_arrows fs)) ∙ sym (arrows_commas f fs)))
@@ -304,6 +414,14 @@ one_object : Derives (site (phrase.SiteStatement (tree.Objects (some_name ∷ []
 unfolding commas
 one_object = whole_site sites.objects (this (this nothing))
 
+one_section : Derives (statement (phrase.Section (tree.At some_name (some_name ∷ []))) ∷ []) (Reserved word.At ∷ Name some_name ∷ Sign symbol.Colon ∷ Name some_name ∷ [])
+unfolding commas
+one_section = whole_statement statements.at (this (this (this (this nothing))))
+
+one_map_at : Derives (statement (phrase.MapAt (record { object = some_name; entries = record { from = tree.ByName some_name; to = tree.ByName some_name } ∷ [] })) ∷ []) (Reserved word.At ∷ Name some_name ∷ Sign symbol.Colon ∷ Name some_name ∷ Sign symbol.Arrow ∷ Name some_name ∷ [])
+unfolding commas
+one_map_at = whole_statement statements.map_at (this (this (this (by_statement statements.by_name (this nothing) (this (whole_statement statements.by_name (this nothing)))))))
+
 pub sample : {s : Sort} (K : Kind s) → (v : Tree s) × (xs : List Token) × Derives (part K v ∷ []) xs
 sample AnyType = (tree.One, _, whole_type types.product_alone one_type)
 sample ProductType = (tree.One, _, one_type)
@@ -324,4 +442,10 @@ sample Parentheses = (tree.Unit, _, whole_term terms.unit (this (this nothing)))
 sample Context = ([], _, whole_term terms.no_variable nothing)
 sample ArrowName = (tree.Declared some_name, Name some_name ∷ [], whole_site sites.declared (this nothing))
 sample SiteStatement = (tree.Objects (some_name ∷ []), Reserved word.Object ∷ Name some_name ∷ [], one_object)
+sample Covers = (tree.Listed [], [], whole_site sites.no_cover nothing)
+sample Topology = (record { name = some_name; covers = tree.Dense }, Reserved word.Topology ∷ Name some_name ∷ Sign symbol.Equals ∷ Reserved word.Dense ∷ [], whole_site sites.dense_topology (this (this (this (this nothing)))))
+sample Section = (tree.At some_name (some_name ∷ []), Reserved word.At ∷ Name some_name ∷ Sign symbol.Colon ∷ Name some_name ∷ [], one_section)
+sample Element = (tree.ByName some_name, Name some_name ∷ [], whole_statement statements.by_name (this nothing))
+sample MapAt = (record { object = some_name; entries = record { from = tree.ByName some_name; to = tree.ByName some_name } ∷ [] }, Reserved word.At ∷ Name some_name ∷ Sign symbol.Colon ∷ Name some_name ∷ Sign symbol.Arrow ∷ Name some_name ∷ [], one_map_at)
+sample Sent = (tree.ObjectTo some_name some_name, Reserved word.At ∷ Name some_name ∷ Sign symbol.Colon ∷ Name some_name ∷ [], whole_statement statements.object_to (this (this (this (this nothing)))))
 sample Cover = (record { object = some_name; arrows = [] }, Reserved word.Cover ∷ Name some_name ∷ Reserved word.By ∷ Reserved word.None ∷ [], whole_site sites.cover_by_none (this (this (this (this nothing)))))

@@ -1,10 +1,10 @@
 -- Reading gives one thing, and looks at no token behind the one at which it stops.
-use Rattle.std.proofs.Common.{◌≡◌, ◌⊎◌, inl, inr, Bool, true, false, List, [], ◌∷◌, ◌++◌, length, refl, sym, ap, subst, ◌∙◌, arith, append_assoc, length-append}
+use Rattle.std.proofs.Common.{◌≡◌, ◌⊎◌, inl, inr, Bool, true, false, List, [], ◌∷◌, ◌++◌, length, refl, sym, ap, subst, ◌∙◌, arith, append_assoc, length-append, ℕ}
 use Rattle.std.proofs.lemmas.List.{append_cancel_right}
-use Rattle.topos_text.specs.Tokens.{Token, Written, Name}
+use Rattle.topos_text.specs.Tokens.{Token, Written, Name, Place}
 use Rattle.topos_grammar.specs.Kinds.{Sort, Tree, Kind}
-use Rattle.topos_grammar.specs.Codes.{Class, This, AnyName, Either, Is, Code, give, eat, name, call, peek, loop, code}
-use Rattle.topos_grammar.specs.Reading.{Read, Whole, Stops, Reading, gives, eats, eats_not, names, names_not, calls, calls_not, peeks, peeks_not, loops, loops_not, loops_end}
+use Rattle.topos_grammar.specs.Codes.{Class, This, AnyName, Either, Is, Code, give, eat, name, call, peek, loop, code, place, AnyPlace}
+use Rattle.topos_grammar.specs.Reading.{Read, Whole, Stops, Reading, gives, eats, eats_not, names, names_not, calls, calls_not, peeks, peeks_not, loops, loops_not, loops_end, places, places_not}
 use Rattle.topos_grammar.proofs.Meaning.{meaning}
 
 -- how the code was read
@@ -12,6 +12,7 @@ abbrev Inverts : {s : Sort} → Code s → List Token → Read s → Type 0
 Inverts (give v) toks r = r ≡ Whole v toks
 Inverts {s} (eat u k) toks r = ((ts : List Token) × (toks ≡ u ∷ ts) × Reading s k ts r) ⊎ ((Is (This u) toks → ⊥) × (r ≡ Stops toks))
 Inverts {s} (name k) toks r = ((x : Written) × (ts : List Token) × (toks ≡ Name x ∷ ts) × Reading s (k x) ts r) ⊎ ((Is AnyName toks → ⊥) × (r ≡ Stops toks))
+Inverts {s} (place k) toks r = ((n : ℕ) × (x : Written) × (ts : List Token) × (toks ≡ Place n x ∷ ts) × Reading s (k n x) ts r) ⊎ ((Is AnyPlace toks → ⊥) × (r ≡ Stops toks))
 Inverts {s} (call {u = u} K k) toks r = ((v : Tree u) × (rest : List Token) × Reading u (code K) toks (Whole v rest) × Reading s (k v) rest r) ⊎ ((rest : List Token) × Reading u (code K) toks (Stops rest) × (r ≡ Stops rest))
 Inverts {s} (peek C a b) toks r = (Is C toks × Reading s a toks r) ⊎ ((Is C toks → ⊥) × Reading s b toks r)
 Inverts {s} (loop {u = u} C item k) toks r =
@@ -24,6 +25,8 @@ inverts (eats {toks = toks} d) = inl (toks, refl, d)
 inverts (eats_not other) = inr (other, refl)
 inverts (names {x = x} {toks = toks} d) = inl (x, toks, refl, d)
 inverts (names_not other) = inr (other, refl)
+inverts (places {n = n} {x = x} {toks = toks} d) = inl (n, x, toks, refl, d)
+inverts (places_not other) = inr (other, refl)
 inverts (calls {v = v} {rest = rest} d e) = inl (v, rest, d, e)
 inverts (calls_not {rest = rest} d) = inr (rest, d, refl)
 inverts (peeks is d) = inl (is, d)
@@ -69,6 +72,9 @@ head_same t u x y e = cc
 name_same : (x y : Written) (ts us : List Token) → Name x ∷ ts ≡ Name y ∷ us → x ≡ y
 name_same x y ts us e = cc
 
+place_same : (n m : ℕ) (x y : Written) (ts us : List Token) → Place n x ∷ ts ≡ Place m y ∷ us → (n ≡ m) × (x ≡ y)
+place_same n m x y ts us e = (cc, cc)
+
 -- reading gives one thing
 pub unique : {s : Sort} {c : Code s} {toks : List Token} {r : Read s} → Reading s c toks r → (q : Read s) → Reading s c toks q → r ≡ q
 unique gives q e = sym (inverts e)
@@ -86,6 +92,15 @@ unique {s} (names {x = x} {k = k} {toks = toks} d) q e = elim (inverts e) [
 ]
 unique (names_not other) q e = elim (inverts e) [
   | inl (y, ts, is, f) ↦ absurd (other (y, ts, is))
+  | inr (no_more, is) ↦ sym is
+]
+unique {s} (places {n = n} {x = x} {k = k} {toks = toks} d) q e = elim (inverts e) [
+  | inl (m, y, ts, is, f) ↦ (let w = place_same n m x y toks ts is in
+      unique d q (subst (λ z. Reading s (k z x) toks q) (sym w.0) (subst (λ z. Reading s (k m z) toks q) (sym w.1) (subst (λ z. Reading s (k m y) z q) (sym (tail_same (Place n x) (Place m y) toks ts is)) f))))
+  | inr (other, is) ↦ absurd (other (n, x, toks, refl))
+]
+unique (places_not other) q e = elim (inverts e) [
+  | inl (m, y, ts, is, f) ↦ absurd (other (m, y, ts, is))
   | inr (no_more, is) ↦ sym is
 ]
 unique {s} (calls {K = K} {k = k} {v = v} {toks = toks} {rest = rest} d f) q e = elim (inverts e) [
@@ -132,6 +147,8 @@ same_class (This t) u r q [] (ts, e) = (q, ap (λ z. z ∷ q) (head_same u t r t
 same_class (This t) u r q (w ∷ b) (ts, e) = (b ++ u ∷ q, ap (λ z. z ∷ b ++ u ∷ q) (head_same w t (b ++ u ∷ r) ts e))
 same_class AnyName u r q [] (x, ts, e) = (x, q, ap (λ z. z ∷ q) (head_same u (Name x) r ts e))
 same_class AnyName u r q (w ∷ b) (x, ts, e) = (x, b ++ u ∷ q, ap (λ z. z ∷ b ++ u ∷ q) (head_same w (Name x) (b ++ u ∷ r) ts e))
+same_class AnyPlace u r q [] (n, x, ts, e) = (n, x, q, ap (λ z. z ∷ q) (head_same u (Place n x) r ts e))
+same_class AnyPlace u r q (w ∷ b) (n, x, ts, e) = (n, x, b ++ u ∷ q, ap (λ z. z ∷ b ++ u ∷ q) (head_same w (Place n x) (b ++ u ∷ r) ts e))
 same_class (Either C D) u r q b (inl is) = inl (same_class C u r q b is)
 same_class (Either C D) u r q b (inr is) = inr (same_class D u r q b is)
 
@@ -149,6 +166,10 @@ again_eat u r q w k b (Stops rest) h = λ e. eats (h e)
 again_name : {s : Sort} (u : Token) (r q : List Token) (x : Written) (k : Written → Code s) (b : List Token) (z : Read s) → Again u r q (k x) b z → Again u r q (name k) (Name x ∷ b) z
 again_name u r q x k b (Whole v rest) h = λ d e. names (h d e)
 again_name u r q x k b (Stops rest) h = λ e. names (h e)
+
+again_place : {s : Sort} (u : Token) (r q : List Token) (n : ℕ) (x : Written) (k : ℕ → Written → Code s) (b : List Token) (z : Read s) → Again u r q (k n x) b z → Again u r q (place k) (Place n x ∷ b) z
+again_place u r q n x k b (Whole v rest) h = λ d e. places (h d e)
+again_place u r q n x k b (Stops rest) h = λ e. places (h e)
 
 -- a token that was passed
 passed : {s : Sort} (u : Token) (r q : List Token) (c : Code s) (b : List Token) (k : Code s) (toks : List Token) (x : Read s) → toks ≡ r → Reading s k toks x → Again u r q c b x
@@ -204,6 +225,11 @@ again u r q (t ∷ b) (names {x = y} {k = k} {toks = toks} {r = x} d) e =
     again_head u r q (name k) b t (Name y) x (sym (head_same (Name y) t toks (b ++ u ∷ r) e)) (again_name u r q y k b x (again u r q b d (tail_same (Name y) t toks (b ++ u ∷ r) e)))
 again {s} u r q b (names_not {k = k} {toks = toks} other) e = λ is.
     subst (λ z. Reading s (name k) (z ++ u ∷ q) (Stops (u ∷ q))) (sym (no_front u r b (sym e ∙ is))) (names_not (λ h. other (subst (λ z. Is AnyName z) (sym is) (same_class AnyName u q r [] h))))
+again u r q [] (places {n = i} {x = y} {k = k} {toks = toks} {r = x} d) e = passed u r q (place k) [] (k i y) toks x (tail_same (Place i y) u toks r e) d
+again u r q (t ∷ b) (places {n = i} {x = y} {k = k} {toks = toks} {r = x} d) e =
+    again_head u r q (place k) b t (Place i y) x (sym (head_same (Place i y) t toks (b ++ u ∷ r) e)) (again_place u r q i y k b x (again u r q b d (tail_same (Place i y) t toks (b ++ u ∷ r) e)))
+again {s} u r q b (places_not {k = k} {toks = toks} other) e = λ is.
+    subst (λ z. Reading s (place k) (z ++ u ∷ q) (Stops (u ∷ q))) (sym (no_front u r b (sym e ∙ is))) (places_not (λ h. other (subst (λ z. Is AnyPlace z) (sym is) (same_class AnyPlace u q r [] h))))
 again u r q b (calls {K = K} {k = k} {v = v} {toks = toks} {rest = mid} {r = x} d f) e = again_call u r q K k v b toks mid x f (again u r q b d e) (λ p at. again u r q p f at)
 again u r q b (calls_not d) e = λ is. calls_not (again u r q b d e is)
 again u r q b (peeks {C = C} {a = a} {b = c} {r = x} is d) e = again_peek u r q C a c b x (same_class C u r q b (subst (λ z. Is C z) e is)) (again u r q b d e)

@@ -1,19 +1,20 @@
 -- The grammar as codes for reading: what is read one behind the other, as the token in front decides.
-use Rattle.std.specs.Prelude.{◌≡◌, ◌⊎◌, Bool, true, false, List, [], ◌∷◌}
+use Rattle.std.specs.Prelude.{◌≡◌, ℕ, ◌⊎◌, Bool, true, false, List, [], ◌∷◌}
 use Rattle.topos_text.specs.declared.word.Word.{Word}
 use Rattle.topos_text.specs.declared.word.Word.TheVariants as word
 use Rattle.topos_text.specs.declared.symbol.Symbol.{Symbol}
 use Rattle.topos_text.specs.declared.symbol.Symbol.TheVariants as symbol
-use Rattle.topos_text.specs.Tokens.{Token, Written, Name, Reserved, Sign}
+use Rattle.topos_text.specs.Tokens.{Token, Written, Name, Place, Reserved, Sign}
 use Rattle.topos_text.specs.Trees.{TypeTree, Binding, Binder, Forall, Exists, Unique, Fun, TermTree}
 use Rattle.topos_text.specs.Trees as tree
 use Rattle.topos_text.specs.Terms.{ends_with_body, binder_word}
-use Rattle.topos_grammar.specs.Kinds.{Sort, OfTerm, OfContext, OfBinding, Tree, Kind, AnyType, ProductType, MoreFactors, PrefixType, AnyTerm, Disjunction, MoreDisjuncts, Conjunction, MoreConjuncts, Negation, BinderTerm, Comparison, Application, MoreArguments, Atom, Parentheses, Context, ArrowName, SiteStatement, Cover, OfName, OfArrow}
+use Rattle.topos_grammar.specs.Kinds.{Sort, OfTerm, OfContext, OfBinding, Tree, Kind, AnyType, ProductType, MoreFactors, PrefixType, AnyTerm, Disjunction, MoreDisjuncts, Conjunction, MoreConjuncts, Negation, BinderTerm, Comparison, Application, MoreArguments, Atom, Parentheses, Context, ArrowName, SiteStatement, Cover, OfName, OfArrow, Covers, Topology, Section, Element, MapAt, Sent, OfCover, OfEntry, OfMapping}
 
 -- a class of tokens
 pub data Class : Type 0 where
   This : Token → Class
   AnyName : Class
+  AnyPlace : Class
   Either : Class → Class → Class
 
 abbrev pub the : Word → Class
@@ -26,6 +27,7 @@ sign s = This (Sign s)
 abbrev pub Is : Class → List Token → Type 0
 Is (This u) toks = (ts : List Token) × (toks ≡ u ∷ ts)
 Is AnyName toks = (x : Written) × (ts : List Token) × (toks ≡ Name x ∷ ts)
+Is AnyPlace toks = (n : ℕ) × (x : Written) × (ts : List Token) × (toks ≡ Place n x ∷ ts)
 Is (Either C D) toks = Is C toks ⊎ Is D toks
 
 -- the words of binders
@@ -39,6 +41,8 @@ pub data Code : Sort → Type 0 where
   eat : {s : Sort} → Token → Code s → Code s
   -- a name
   name : {s : Sort} → (Written → Code s) → Code s
+  -- a place
+  place : {s : Sort} → (ℕ → Written → Code s) → Code s
   -- a phrase
   call : {s u : Sort} → Kind u → (Tree u → Code s) → Code s
   -- the first where a token of the class stands in front, and else the second
@@ -70,6 +74,18 @@ in_parentheses f = eat_sign symbol.OpenParenthesis (call AnyTerm (λ t. eat_sign
 -- NAME {{ "," NAME }}
 abbrev pub names : {s : Sort} → (Written → List Written → Code s) → Code s
 names {s} k = name (λ x. loop {s = s} {u = OfName} (sign symbol.Comma) (eat_sign symbol.Comma (name (λ y. give {s = OfName} y))) (λ ys. k x ys))
+
+-- {{ cover ";" }}
+abbrev pub covers : {s : Sort} → (List tree.CoverTree → Code s) → Code s
+covers {s} k = loop {s = s} {u = OfCover} (the word.Cover) (call Cover (λ c. eat_sign symbol.Semicolon (give c))) (λ cs. k cs)
+
+-- NAME "->" NAME
+abbrev pub entry : {s : Sort} → (tree.EntryTree → Code s) → Code s
+entry k = name (λ x. eat_sign symbol.Arrow (name (λ y. k (record { from = x; to = y }))))
+
+-- element "->" element
+abbrev pub mapping : {s : Sort} → (tree.MappingTree → Code s) → Code s
+mapping k = call Element (λ x. eat_sign symbol.Arrow (call Element (λ y. k (record { from = x; to = y }))))
 
 unfoldable pub code : {s : Sort} → Kind s → Code s
 code AnyType = call ProductType (λ S. peek (sign symbol.Arrow) (eat_sign symbol.Arrow (call AnyType (λ T. give (tree.Function S T)))) (give S))
@@ -123,3 +139,15 @@ code SiteStatement =
 code Cover = eat_word word.Cover (name (λ x. eat_word word.By
     (peek (the word.None) (eat_word word.None (give (record { object = x; arrows = [] })))
     (call ArrowName (λ f. loop {u = OfArrow} (sign symbol.Comma) (eat_sign symbol.Comma (call ArrowName (λ g. give g))) (λ fs. give (record { object = x; arrows = f ∷ fs })))))))
+code Covers = peek (the word.Topology) (eat_word word.Topology (eat_word word.Dense (eat_sign symbol.Semicolon (give tree.Dense)))) (covers (λ cs. give (tree.Listed cs)))
+code Topology = eat_word word.Topology (name (λ j.
+    peek (sign symbol.Equals) (eat_sign symbol.Equals (eat_word word.Dense (give (record { name = j; covers = tree.Dense }))))
+    (eat_sign symbol.OpenBrace (covers (λ cs. eat_sign symbol.CloseBrace (give (record { name = j; covers = tree.Listed cs })))))))
+code Section =
+    peek (the word.At) (eat_word word.At (name (λ u. eat_sign symbol.Colon (names (λ x xs. give (tree.At u (x ∷ xs)))))))
+    (eat_word word.Along (name (λ f. eat_sign symbol.Colon (entry (λ e. loop {u = OfEntry} (sign symbol.Comma) (eat_sign symbol.Comma (entry (λ g. give g))) (λ es. give (tree.Along f (e ∷ es))))))))
+code Element = peek AnyName (name (λ x. give (tree.ByName x))) (place (λ n x. give (tree.ByPlace n x)))
+code MapAt = eat_word word.At (name (λ u. eat_sign symbol.Colon (mapping (λ e. loop {u = OfMapping} (sign symbol.Comma) (eat_sign symbol.Comma (mapping (λ g. give g))) (λ es. give (record { object = u; entries = e ∷ es }))))))
+code Sent =
+    peek (the word.At) (eat_word word.At (name (λ d. eat_sign symbol.Colon (name (λ c. give (tree.ObjectTo d c))))))
+    (eat_word word.Along (name (λ u. eat_sign symbol.Colon (call ArrowName (λ f. give (tree.ArrowTo u f))))))

@@ -4,8 +4,8 @@ use Rattle.topos_text.specs.declared.word.Word.TheVariants as word
 use Rattle.topos_text.specs.declared.symbol.Symbol.TheVariants as symbol
 use Rattle.topos_text.specs.Tokens.{Token, Reserved, Sign}
 use Rattle.topos_text.specs.Terms.{ends_with_body}
-use Rattle.topos_grammar.specs.Kinds.{Sort, Tree, Kind, AnyType, ProductType, MoreFactors, PrefixType, AnyTerm, Disjunction, MoreDisjuncts, Conjunction, MoreConjuncts, Negation, BinderTerm, Comparison, Application, MoreArguments, Atom, Parentheses, Context, ArrowName, SiteStatement, Cover}
-use Rattle.topos_grammar.specs.Codes.{Is, sign}
+use Rattle.topos_grammar.specs.Kinds.{Sort, Tree, Kind, AnyType, ProductType, MoreFactors, PrefixType, AnyTerm, Disjunction, MoreDisjuncts, Conjunction, MoreConjuncts, Negation, BinderTerm, Comparison, Application, MoreArguments, Atom, Parentheses, Context, ArrowName, SiteStatement, Cover, Covers, Topology, Section, Element, MapAt, Sent}
+use Rattle.topos_grammar.specs.Codes.{Is, sign, the}
 
 -- how loosely the token in front binds
 abbrev pub type_level : List Token → ℕ
@@ -49,3 +49,9 @@ Follow Context t ts = Is (sign symbol.Bar) ts
 Follow ArrowName t ts = Unit {0}
 Follow SiteStatement t ts = Is (sign symbol.Semicolon) ts
 Follow Cover t ts = Is (sign symbol.Semicolon) ts
+Follow Covers t ts = (Is (the word.Topology) ts → ⊥) × (Is (the word.Cover) ts → ⊥)
+Follow Topology t ts = Is (sign symbol.Semicolon) ts
+Follow Section t ts = Is (sign symbol.Semicolon) ts
+Follow Element t ts = Unit {0}
+Follow MapAt t ts = Is (sign symbol.Semicolon) ts
+Follow Sent t ts = Is (sign symbol.Semicolon) ts

@@ -1,12 +1,13 @@
 -- The kinds of phrases, without their trees.
 use Rattle.std.specs.Prelude.{List}
 use Rattle.topos_text.specs.Tokens.{Written}
-use Rattle.topos_text.specs.Trees.{TypeTree, TermTree, Binding, ArrowTree, SiteTree, CoverTree}
-use Rattle.topos_text.specs.Phrases.{Part, type, term, site}
+use Rattle.topos_text.specs.Trees.{TypeTree, TermTree, Binding, ArrowTree, SiteTree, CoverTree, CoversTree, TopologyTree, EntryTree, SectionTree, ElementTree, MappingTree, MapAtTree, SentTree}
+use Rattle.topos_text.specs.Phrases.{Part, type, term, site, statement}
 use Rattle.topos_text.specs.Phrases as phrase
 use Rattle.topos_text.specs.Types.{TypeSide}
 use Rattle.topos_text.specs.Terms.{TermSide}
 use Rattle.topos_text.specs.SiteStatements.{SiteSide}
+use Rattle.topos_text.specs.Statements.{StatementSide}
 
 -- what the trees of a phrase are
 pub data Sort : Type 0 where
@@ -18,6 +19,14 @@ pub data Sort : Type 0 where
   OfArrow : Sort
   OfSite : Sort
   OfCover : Sort
+  OfCovers : Sort
+  OfTopology : Sort
+  OfEntry : Sort
+  OfSection : Sort
+  OfElement : Sort
+  OfMapping : Sort
+  OfMapAt : Sort
+  OfSent : Sort
 
 abbrev pub Tree : Sort → Type 0
 Tree OfType = TypeTree
@@ -28,6 +37,14 @@ Tree OfName = Written
 Tree OfArrow = ArrowTree
 Tree OfSite = SiteTree
 Tree OfCover = CoverTree
+Tree OfCovers = CoversTree
+Tree OfTopology = TopologyTree
+Tree OfEntry = EntryTree
+Tree OfSection = SectionTree
+Tree OfElement = ElementTree
+Tree OfMapping = MappingTree
+Tree OfMapAt = MapAtTree
+Tree OfSent = SentTree
 
 -- A kind of phrases. One that goes on from a tree has that tree.
 pub data Kind : Sort → Type 0 where
@@ -51,6 +68,12 @@ pub data Kind : Sort → Type 0 where
   ArrowName : Kind OfArrow
   SiteStatement : Kind OfSite
   Cover : Kind OfCover
+  Covers : Kind OfCovers
+  Topology : Kind OfTopology
+  Section : Kind OfSection
+  Element : Kind OfElement
+  MapAt : Kind OfMapAt
+  Sent : Kind OfSent
 
 -- the phrase of the kind with the tree
 abbrev pub part : {s : Sort} → Kind s → Tree s → Part
@@ -74,6 +97,12 @@ part Context t = term (phrase.Context t)
 part ArrowName t = site (phrase.ArrowName t)
 part SiteStatement t = site (phrase.SiteStatement t)
 part Cover t = site (phrase.Cover t)
+part Covers t = site (phrase.Covers t)
+part Topology t = site (phrase.Topology t)
+part Section t = statement (phrase.Section t)
+part Element t = statement (phrase.Element t)
+part MapAt t = statement (phrase.MapAt t)
+part Sent t = statement (phrase.Sent t)
 
 -- a right side of that phrase
 abbrev pub Side : {s : Sort} → Kind s → Tree s → List Part → Type 0
@@ -97,3 +126,9 @@ Side Context t side = TermSide (phrase.Context t) side
 Side ArrowName t side = SiteSide (phrase.ArrowName t) side
 Side SiteStatement t side = SiteSide (phrase.SiteStatement t) side
 Side Cover t side = SiteSide (phrase.Cover t) side
+Side Covers t side = SiteSide (phrase.Covers t) side
+Side Topology t side = SiteSide (phrase.Topology t) side
+Side Section t side = StatementSide (phrase.Section t) side
+Side Element t side = StatementSide (phrase.Element t) side
+Side MapAt t side = StatementSide (phrase.MapAt t) side
+Side Sent t side = StatementSide (phrase.Sent t) side
