@@ -13,3 +13,14 @@ pub mod Lifts
 pub mod Descents
 pub mod RigidNumbers
 pub mod CellSums
+pub mod Searches
+pub mod SearchSteps
+pub mod SearchMeasure
+pub mod FlatMaps
+pub mod FlatSquares
+pub mod Candidates
+pub mod JoinedBounds
+pub mod ChainLinks
+pub mod PlaceSearch
+pub mod SquareChains
+pub mod CutRows

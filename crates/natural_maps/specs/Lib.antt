@@ -4,3 +4,6 @@ pub mod Faults
 pub mod Components
 pub mod Made
 pub mod Room
+pub mod Search
+pub mod Squares
+pub mod Listed

@@ -1,0 +1,17 @@
+use Rattle.std.proofs.Common.{◌≡◌, ◌<◌, ℕ, List, length, get_or, map, ap, ◌∙◌, arith}
+use Rattle.std.proofs.lemmas.List.{get_or-map, length-map}
+use Rattle.natural_maps.specs.declared.squares.Square.{Square}
+use Rattle.natural_maps.specs.Squares.{later_place, squares_of}
+use Rattle.natural_maps.proofs.PlaceSearch.{are_squares}
+use Rattle.natural_maps.proofs.listing.list_maps.Goals as goal
+
+pub of-requires : goal.of-requires
+of-requires c i within =
+    let squares : List Square = squares_of c.args.cat.now c.args.p.now in
+    let d : Square = record { arrow = 0; element = 0; restricted = 0 } in
+    let is = are_squares c.args.cat.now c.args.p.now c.args.q.now c.laws.ensures.lawful c.requires.domain c.requires.codomain in
+    let places : c.as_slice-3.result.now ≡ map later_place squares =
+    c.as_slice-3.ensures ∙ c.in_ok-places.ensures ∙ ap (λ (l : List Square). map later_place l) (c.as_slice-2.ensures ∙ c.in_ok-squares.ensures) in
+    let low : i < length squares = omega (arith, within, ap length places, length-map squares later_place) in
+    let at : get_or c.as_slice-3.result.now i 0 ≡ later_place (get_or squares i d) = ap (λ (l : List ℕ). get_or l i 0) places ∙ get_or-map later_place squares i d 0 low in
+    omega (arith, at, is.element i d low, is.restricted i d low, c.len-2.ensures, ap length c.in_ok-bounds.ensures)
