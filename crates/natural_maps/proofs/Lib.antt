@@ -24,3 +24,4 @@ pub mod ChainLinks
 pub mod PlaceSearch
 pub mod SquareChains
 pub mod CutRows
+pub mod TableListings

@@ -7,3 +7,4 @@ pub mod Room
 pub mod Search
 pub mod Squares
 pub mod Listed
+pub mod Tables

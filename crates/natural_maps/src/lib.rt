@@ -21,3 +21,6 @@ pub use listing::{Listing, list_maps};
 pub use made::{Made1, Made2};
 pub use map::NatMap;
 pub use room::{MAX_ROOM, lengths, sizes_within};
+
+#[cfg(test)]
+mod tests;
