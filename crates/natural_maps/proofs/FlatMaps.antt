@@ -1,6 +1,8 @@
 -- All natural maps are the natural assignments, cut into components.
 use Rattle.std.proofs.Common.{◌≡◌, ℕ, zero, suc, ◌+◌, Bool, true, false, cond, inl, inr, List, [], ◌∷◌, ◌++◌, map, length, take, drop, filter, flat_map, replicate, refl, sym, ap, ◌∙◌, arith}
 use Rattle.std.specs.List.{range_with_len}
+use Rattle.std.proofs.lemmas.List.{append-nil, map-append}
+use Rattle.std.proofs.lemmas.Grind.{flat_map-append}
 use Rattle.finite_lists.specs.Members.{In}
 use Rattle.finite_lists.proofs.Lists.{map_same}
 use Rattle.topos_model.specs.categories.Category.{Category}
@@ -10,35 +12,23 @@ use Rattle.topos_model.specs.presheaves.NaturalMaps.{choices, rows, all_componen
 use Rattle.natural_maps.specs.Places.{cut}
 use Rattle.natural_maps.specs.Search.{assignments, bounds_of, sizes_of, is_natural, under}
 use Rattle.natural_maps.proofs.AllMaps.{In-choices_from}
-use Rattle.natural_maps.proofs.Searches.{map_append, map_map}
-
-append_append : {A : Type 0} (xs ys zs : List A) → (xs ++ ys) ++ zs ≡ xs ++ (ys ++ zs)
-append_append [] ys zs = refl
-append_append (x ∷ xs) ys zs = ap (λ l. x ∷ l) (append_append xs ys zs)
-
-nothing_after : {A : Type 0} (xs : List A) → xs ++ [] ≡ xs
-nothing_after [] = refl
-nothing_after (x ∷ xs) = ap (λ l. x ∷ l) (nothing_after xs)
+use Rattle.natural_maps.proofs.Searches.{map_map}
 
 map_alike : {A : Type 0} (f : A → A) (xs : List A) → ((x : A) → f x ≡ x) → map f xs ≡ xs
 map_alike f [] h = refl
 map_alike f (x ∷ xs) h = ap (λ y. y ∷ map f xs) (h x) ∙ ap (λ l. x ∷ l) (map_alike f xs h)
 
-joined_append : {A B : Type 0} (g : A → List B) (xs ys : List A) → flat_map g (xs ++ ys) ≡ flat_map g xs ++ flat_map g ys
-joined_append g [] ys = refl
-joined_append g (x ∷ xs) ys = ap (λ l. g x ++ l) (joined_append g xs ys) ∙ sym (append_append (g x) (flat_map g xs) (flat_map g ys))
-
 joined_joined : {A B C : Type 0} (g : B → List C) (f : A → List B) (xs : List A) → flat_map g (flat_map f xs) ≡ flat_map (λ x. flat_map g (f x)) xs
 joined_joined g f [] = refl
-joined_joined g f (x ∷ xs) = joined_append g (f x) (flat_map f xs) ∙ ap (λ l. flat_map g (f x) ++ l) (joined_joined g f xs)
+joined_joined g f (x ∷ xs) = flat_map-append g (f x) (flat_map f xs) ∙ ap (λ l. flat_map g (f x) ++ l) (joined_joined g f xs)
 
 joined_map : {A B C : Type 0} (g : B → List C) (f : A → B) (xs : List A) → flat_map g (map f xs) ≡ flat_map (λ x. g (f x)) xs
 joined_map g f [] = refl
 joined_map g f (x ∷ xs) = ap (λ l. g (f x) ++ l) (joined_map g f xs)
 
-map_joined : {A B C : Type 0} (h : B → C) (g : A → List B) (xs : List A) → map h (flat_map g xs) ≡ flat_map (λ x. map h (g x)) xs
+pub map_joined : {A B C : Type 0} (h : B → C) (g : A → List B) (xs : List A) → map h (flat_map g xs) ≡ flat_map (λ x. map h (g x)) xs
 map_joined h g [] = refl
-map_joined h g (x ∷ xs) = map_append h (g x) (flat_map g xs) ∙ ap (λ l. map h (g x) ++ l) (map_joined h g xs)
+map_joined h g (x ∷ xs) = map-append h (g x) (flat_map g xs) ∙ ap (λ l. map h (g x) ++ l) (map_joined h g xs)
 
 joined_same : {A B : Type 0} (f g : A → List B) (xs : List A) → ((x : A) → In xs x → f x ≡ g x) → flat_map f xs ≡ flat_map g xs
 joined_same f g [] h = refl
@@ -55,7 +45,7 @@ filter_of_map {A} {B} p f (x ∷ xs) = at (p (f x)) (filter_of_map p f xs)
 -- a choice of two runs of lists is a choice of the first and then one of the second
 pub choices_append : {A : Type 0} (xss yss : List (List A)) → choices (xss ++ yss) ≡ flat_map (λ a. map (λ b. a ++ b) (choices yss)) (choices xss)
 unfolding choices
-choices_append [] yss = sym (nothing_after (map (λ b. b) (choices yss)) ∙ map_alike (λ b. b) (choices yss) (λ b. refl))
+choices_append [] yss = sym (append-nil (map (λ b. b) (choices yss)) ∙ map_alike (λ b. b) (choices yss) (λ b. refl))
 choices_append {A} (xs ∷ xss) yss =
     joined_same (λ x. map (λ b. x ∷ b) (choices (xss ++ yss))) (λ x. flat_map (λ a. map (λ b. a ++ b) (choices yss)) (map (λ a. x ∷ a) (choices xss))) xs (λ x i.
     ap (map (λ b. x ∷ b)) (choices_append xss yss) ∙ map_joined (λ b. x ∷ b) (λ a. map (λ b. a ++ b) (choices yss)) (choices xss)
@@ -112,7 +102,7 @@ module _ (P Q : Presheaf) where
   joined_bounds [] = refl
   joined_bounds (c ∷ cs) =
       ap (λ l. l ++ joined (map lists_at cs)) (one_bound (size P c) (size Q c) 0) ∙ ap (λ l. map (range_with_len 0) (replicate (size P c) (size Q c)) ++ l) (joined_bounds cs)
-      ∙ sym (map_append (range_with_len 0) (replicate (size P c) (size Q c)) (flat_map (λ c. replicate (size P c) (size Q c)) cs))
+      ∙ sym (map-append (range_with_len 0) (replicate (size P c) (size Q c)) (flat_map (λ c. replicate (size P c) (size Q c)) cs))
 
   lengths : (cs : List ℕ) → map length (map lists_at cs) ≡ map (size P) cs
   lengths [] = refl

@@ -1,7 +1,8 @@
 -- The states of the search for all natural maps, place by place.
-use Rattle.std.proofs.Common.{◌≡◌, ℕ, zero, suc, ◌+◌, ◌-◌, ◌<◌, ◌≤◌, ◌⊎◌, inl, inr, true, false, cond, List, [], ◌∷◌, ◌++◌, length, get_or, set, map, take, flat_map, replicate, refl, sym, ap, subst, ◌∙◌, arith, length-set, get_or-set_same, get_or-set_other}
+use Rattle.std.proofs.Common.{◌≡◌, ℕ, zero, suc, ◌+◌, ◌-◌, ◌<◌, ◌≤◌, inl, inr, true, false, cond, List, [], ◌∷◌, ◌++◌, length, get_or, set, map, take, flat_map, replicate, refl, sym, ap, subst, ◌∙◌, arith, length-set, get_or-set_same, get_or-set_other}
 use Rattle.std.specs.List.{range_with_len}
-use Rattle.std.proofs.lemmas.List.{take_more_set, length-take-le, get_or-take, append_assoc, length-append, length-replicate}
+use Rattle.std.proofs.lemmas.List.{append-nil, append_assoc, take_more_set, length-take-le, get_or-take, length-append, length-replicate}
+use Rattle.std.proofs.lemmas.Bool.{cases_lt}
 use Rattle.finite_lists.specs.Members.{In}
 use Rattle.finite_lists.proofs.Lists.{In_at, In-map, In-map_from, In-flat_map, In-flat_map_from}
 use Rattle.finite_lists.proofs.DistinctLists.{In-range, In-range_from}
@@ -19,7 +20,6 @@ use Rattle.natural_maps.proofs.FlatMaps.{maps_cut}
 use Rattle.natural_maps.proofs.FlatSquares.{place_of, broken_square, all_squares}
 use Rattle.natural_maps.proofs.Candidates.{bound_at}
 use Rattle.natural_maps.proofs.ChainLinks.{split}
-use Rattle.natural_maps.proofs.JoinedBounds.{nothing_after}
 use Rattle.natural_maps.proofs.SearchSteps.{left_unset, left_set, left_found, left_none, left_back, left_end, left_start}
 
 each_member : {A : Type 0} (G : A → Type 0) (xs : List A) → ((i : ℕ) (d : A) → i < length xs → G (get_or xs i d)) → (x : A) → In xs x → G x
@@ -144,7 +144,7 @@ module _ (k : Category) (P Q : Presheaf) (law : IsCategory k) (domain : IsFuncto
   -- where all numbers are below the bounds and all squares fit, they make a natural map
   pub all_natural : (values : List ℕ) → ((e : ℕ) → e < places → get_or values e 0 < get_or (bounds_of k P Q) e 0) → ((s : ℕ) (d : Square) → s < length (squares_of k P) → Fits Q values (get_or (squares_of k P) s d)) → is_natural k P Q values ≡ true
   all_natural values below fit =
-      all_squares k P Q law domain values (λ f x low within. elim (around f k.objects) [
+      all_squares k P Q law domain values (λ f x low within. elim (cases_lt f k.objects) [
         | inl identity ↦ at_identity f x identity low within
         | inr other ↦
             (let e = here (dom k f) (act P f x) in ap (λ n. get_or values n 0) (sym e))
@@ -152,12 +152,6 @@ module _ (k : Category) (P Q : Presheaf) (law : IsCategory k) (domain : IsFuncto
             ∙ (let e = here (cod k f) x in ap (λ n. act Q f (get_or values n 0)) e)
       ])
     where
-      around : (s n : ℕ) → (s < n) ⊎ (n ≤ s)
-      around zero zero = inr (omega arith)
-      around zero (suc n) = inl (omega arith)
-      around (suc s) zero = inr (omega arith)
-      around (suc s) (suc n) = elim (around s n) [ inl a ↦ inl (omega arith) | inr b ↦ inr (omega arith) ]
-
       at_identity : (f x : ℕ) → f < k.objects → f < length k.ends → x < size P (cod k f) → get_or values (place_of k P Q (dom k f) (act P f x)) 0 ≡ act Q f (get_or values (place_of k P Q (cod k f) x) 0)
       at_identity f x identity low within =
           let is = law.identity f identity in
@@ -304,7 +298,7 @@ module _ (k : Category) (P Q : Presheaf) (law : IsCategory k) (domain : IsFuncto
     -- and at the first place all are found
     pub state_end : place ≡ 0 → get_or bounds place 0 ≤ next → found ≡ maps k P Q
     state_end e end =
-        sym (nothing_after found) ∙ ap rest_of (sym (left_end (is_natural k P Q) bounds values is.whole next (subst (λ n. get_or bounds n 0 ≤ next) e end)))
+        sym (append-nil found) ∙ ap rest_of (sym (left_end (is_natural k P Q) bounds values is.whole next (subst (λ n. get_or bounds n 0 ≤ next) e end)))
         ∙ ap (λ n. rest_of (left (is_natural k P Q) bounds values n next)) (sym e) ∙ is.rest
 
   -- where there are no elements, there is one map

@@ -1,13 +1,9 @@
 -- The steps of the search: a number is set, an assignment is found, a number is passed over, and the place before comes next.
-use Rattle.std.proofs.Common.{◌≡◌, ℕ, suc, ◌+◌, ◌<◌, ◌≤◌, Bool, true, false, cond, List, [], ◌∷◌, ◌++◌, length, get_or, set, take, drop, refl, sym, ap, ◌∙◌, arith, length-set, get_or-set_same, get_or-set_other}
-use Rattle.std.proofs.lemmas.List.{take-set, take-set-le, take_more_set, take_all, length-take-le}
+use Rattle.std.proofs.Common.{◌≡◌, ℕ, suc, ◌+◌, ◌<◌, ◌≤◌, Bool, true, false, cond, List, [], ◌∷◌, ◌++◌, length, get_or, set, take, drop, sym, ap, ◌∙◌, arith, length-set, get_or-set_same, get_or-set_other}
+use Rattle.std.proofs.lemmas.List.{append_assoc, append-nil, take-set, take-set-le, take_more_set, take_all, length-take-le}
 use Rattle.finite_lists.specs.Members.{In}
 use Rattle.natural_maps.specs.Search.{assignments, under, under_from, later, left}
 use Rattle.natural_maps.proofs.Searches.{under_whole, under_none, under_next, under_from-more, under_from-end, later_same}
-
-append_append : {A : Type 0} (xs ys zs : List A) → (xs ++ ys) ++ zs ≡ xs ++ (ys ++ zs)
-append_append [] ys zs = refl
-append_append (x ∷ xs) ys zs = ap (λ l. x ∷ l) (append_append xs ys zs)
 
 module _ (natural : List ℕ → Bool) (bounds values : List ℕ) (whole : length values ≡ length bounds) where
   -- a later number at a place changes nothing of what comes after the places before it
@@ -24,7 +20,7 @@ module _ (natural : List ℕ → Bool) (bounds values : List ℕ) (whole : lengt
       let n : length (take d values) ≡ d = length-take-le d values (omega (arith, whole)) in
       let here : v < get_or bounds (length (take d values)) 0 = rw n below in
       ap (λ l. l ++ later natural bounds values d) (under_from-more natural bounds (take d values) v here)
-      ∙ append_append (under natural bounds (take d values ++ v ∷ [])) (under_from natural bounds (take d values) (v + 1)) (later natural bounds values d)
+      ∙ append_assoc (under natural bounds (take d values ++ v ∷ [])) (under_from natural bounds (take d values) (v + 1)) (later natural bounds values d)
 
   -- what was set at d is what the next place begins with
   pub left_set : (d v : ℕ) → d + 1 < length bounds → v < get_or bounds d 0 → left natural bounds values d v ≡ left natural bounds (set values d v) (suc d) 0
@@ -70,8 +66,4 @@ module _ (natural : List ℕ → Bool) (bounds values : List ℕ) (whole : lengt
 -- the search begins at the first place
 pub left_start : (natural : List ℕ → Bool) (bounds values : List ℕ) → 0 < length bounds → under natural bounds [] ≡ left natural bounds values 0 0
 unfolding later
-left_start natural bounds values low = under_next natural bounds [] low ∙ sym (nothing_after (under_from natural bounds [] 0))
-  where
-    nothing_after : (l : List (List ℕ)) → l ++ [] ≡ l
-    nothing_after [] = refl
-    nothing_after (x ∷ l) = ap (λ l. x ∷ l) (nothing_after l)
+left_start natural bounds values low = under_next natural bounds [] low ∙ sym (append-nil (under_from natural bounds [] 0))

@@ -1,24 +1,13 @@
 -- One step of the search for all natural assignments.
-use Rattle.std.proofs.Common.{◌≡◌, ℕ, zero, suc, ◌+◌, ◌-◌, ◌<◌, ◌≤◌, Bool, true, false, cond, inl, inr, List, [], ◌∷◌, ◌++◌, map, length, get_or, take, drop, filter, flat_map, refl, sym, ap, ◌∙◌, arith}
+use Rattle.std.proofs.Common.{◌≡◌, ℕ, zero, suc, ◌+◌, ◌-◌, ◌<◌, ◌≤◌, Bool, false, cond, inl, inr, List, [], ◌∷◌, ◌++◌, map, length, get_or, take, drop, filter, flat_map, refl, sym, ap, ◌∙◌, arith}
 use Rattle.std.specs.List.{range_with_len}
-use Rattle.std.proofs.lemmas.List.{drop_more, drop_all}
+use Rattle.std.proofs.lemmas.List.{append-nil, map-append, drop_more, drop_all}
+use Rattle.std.proofs.lemmas.List.Elements.{filter-append}
 use Rattle.finite_lists.specs.Members.{In}
 use Rattle.finite_lists.proofs.Lists.{In-map_from, map_same}
 use Rattle.presheaf_core.proofs.Tables.{range_from}
 use Rattle.topos_model.specs.presheaves.NaturalMaps.{choices}
 use Rattle.natural_maps.specs.Search.{assignments, under, under_from, later}
-
-filter_append : {A : Type 0} (p : A → Bool) (xs ys : List A) → filter p (xs ++ ys) ≡ filter p xs ++ filter p ys
-filter_append p [] ys = refl
-filter_append {A} p (x ∷ xs) ys = at (p x) (filter_append p xs ys)
-  where
-    at : (b : Bool) → filter p (xs ++ ys) ≡ filter p xs ++ filter p ys → cond b (x ∷ filter p (xs ++ ys)) (filter p (xs ++ ys)) ≡ cond b (x ∷ filter p xs) (filter p xs) ++ filter p ys
-    at true e = ap (λ l. x ∷ l) e
-    at false e = e
-
-pub map_append : {A B : Type 0} (f : A → B) (xs ys : List A) → map f (xs ++ ys) ≡ map f xs ++ map f ys
-map_append f [] ys = refl
-map_append f (x ∷ xs) ys = ap (λ l. f x ∷ l) (map_append f xs ys)
 
 pub map_map : {A B C : Type 0} (f : B → C) (g : A → B) (xs : List A) → map f (map g xs) ≡ map (λ x. f (g x)) xs
 map_map f g [] = refl
@@ -28,7 +17,7 @@ map_map f g (x ∷ xs) = ap (λ l. f (g x) ∷ l) (map_map f g xs)
 filter_map-flat_map : {A B C : Type 0} (p : C → Bool) (h : B → C) (f : A → List B) (xs : List A) → filter p (map h (flat_map f xs)) ≡ flat_map (λ x. filter p (map h (f x))) xs
 filter_map-flat_map p h f [] = refl
 filter_map-flat_map p h f (x ∷ xs) =
-    ap (filter p) (map_append h (f x) (flat_map f xs)) ∙ filter_append p (map h (f x)) (map h (flat_map f xs))
+    ap (filter p) (map-append h (f x) (flat_map f xs)) ∙ filter-append p (map h (f x)) (map h (flat_map f xs))
     ∙ ap (λ l. filter p (map h (f x)) ++ l) (filter_map-flat_map p h f xs)
 
 flat_map_same : {A B : Type 0} (f g : A → List B) (xs : List A) → ((x : A) → f x ≡ g x) → flat_map f xs ≡ flat_map g xs
@@ -38,10 +27,6 @@ flat_map_same f g (x ∷ xs) h = ap (λ l. l ++ flat_map f xs) (h x) ∙ ap (λ 
 append_one : (p : List ℕ) (v : ℕ) (rest : List ℕ) → (p ++ v ∷ []) ++ rest ≡ p ++ v ∷ rest
 append_one [] v rest = refl
 append_one (x ∷ p) v rest = ap (λ l. x ∷ l) (append_one p v rest)
-
-pub append_none : (p : List ℕ) → p ++ [] ≡ p
-append_none [] = refl
-append_none (x ∷ p) = ap (λ l. x ∷ l) (append_none p)
 
 length_one : (p : List ℕ) (v : ℕ) → length (p ++ v ∷ []) ≡ length p + 1
 length_one [] v = refl
@@ -56,7 +41,7 @@ module _ (natural : List ℕ → Bool) (bounds : List ℕ) where
   pub under_whole : (p : List ℕ) → length bounds ≤ length p → under natural bounds p ≡ filter natural (p ∷ [])
   unfolding under choices
   under_whole p high =
-      ap (λ l. filter natural (map (λ rest. p ++ rest) (assignments l))) (drop_all (length p) bounds high) ∙ ap (λ l. filter natural (l ∷ [])) (append_none p)
+      ap (λ l. filter natural (map (λ rest. p ++ rest) (assignments l))) (drop_all (length p) bounds high) ∙ ap (λ l. filter natural (l ∷ [])) (append-nil p)
 
   -- no extension within the bounds is natural
   pub under_none : (p : List ℕ) → ((rest : List ℕ) → In (assignments (drop (length p) bounds)) rest → natural (p ++ rest) ≡ false) → under natural bounds p ≡ []

@@ -1,5 +1,5 @@
 -- Presheaves and maps that are listed by tables are in range, and nothing is listed twice.
-use Rattle.std.proofs.Common.{◌≡◌, ℕ, zero, suc, ◌+◌, ◌<◌, ◌≤◌, List, [], ◌∷◌, ◌++◌, map, length, get_or, flat_map, refl, sym, ap, subst, ◌∙◌, arith}
+use Rattle.std.proofs.Common.{◌≡◌, ℕ, ◌+◌, ◌<◌, ◌≤◌, List, [], map, length, get_or, sym, ap, subst, ◌∙◌, arith}
 use Rattle.std.specs.List.{range_with_len}
 use Rattle.finite_lists.specs.Members.{In, Distinct}
 use Rattle.finite_lists.proofs.Lists.{In-map_from, In-flat_map_from}
@@ -9,8 +9,9 @@ use Rattle.topos_model.specs.declared.raw.RawEntry.{RawEntry}
 use Rattle.topos_model.specs.categories.Category.{Category, dom, cod}
 use Rattle.topos_model.specs.presheaves.PresheafFaults.{IsPresheafListing}
 use Rattle.topos_model.specs.presheaves.MapFaults.{IsMapListing}
-use Rattle.natural_maps.specs.Tables.{table_entries, along_at, table_along, row_images, table_images, AreRestrictions}
-use Rattle.natural_maps.proofs.Searches.{map_append, map_map}
+use Rattle.natural_maps.specs.Tables.{along_at, table_along, row_images, table_images, AreRestrictions}
+use Rattle.natural_maps.proofs.Searches.{map_map}
+use Rattle.natural_maps.proofs.FlatMaps.{map_joined}
 
 once : {A B : Type 0} (key : A → B) (f : ℕ → A) → ((i j : ℕ) → key (f i) ≡ key (f j) → i ≡ j) → (a n : ℕ) → Distinct (map key (map f (range_with_len a n)))
 once key f apart a n = subst Distinct (sym (map_map key f (range_with_len a n))) (Distinct-map (λ i. key (f i)) (range_with_len a n) apart (Distinct-range a n))
@@ -41,10 +42,6 @@ presheaf_listing k sizes rows sized are = record {
 
 abbrev key : RawEntry → ℕ × ℕ
 key e = (e.at, e.from)
-
-map_joined : {A B C : Type 0} (h : B → C) (g : A → List B) (xs : List A) → map h (flat_map g xs) ≡ flat_map (λ x. map h (g x)) xs
-map_joined h g [] = refl
-map_joined h g (x ∷ xs) = map_append h (g x) (flat_map g xs) ∙ ap (λ l. map h (g x) ++ l) (map_joined h g xs)
 
 pub map_listing : (k : Category) (rows : List (List ℕ)) → length rows ≤ k.objects → IsMapListing k (record { entries = table_images rows })
 map_listing k rows few = record {

@@ -156,7 +156,7 @@ fn sole_map(
     Ok(Listing::All(found))
 }
 
-/// All natural maps from p to q, in lexicographic order of their numbers: objects in order, elements in order.
+/// All natural maps from p to q (Categorical Preliminaries, I), in lexicographic order of their numbers: objects in order, elements in order.
 /// `Over` comes exactly where there are more than `room`. Want of memory is the only error.
 pub fn list_maps(
     alloc: Global,

@@ -1,5 +1,6 @@
-use Rattle.std.proofs.Common.{◌≡◌, ℕ, ◌-◌, ◌<◌, ◌≤◌, ◌⊎◌, inl, inr, zero, suc, length, get_or, refl, sym, subst, arith}
+use Rattle.std.proofs.Common.{◌≡◌, ℕ, ◌-◌, ◌<◌, inl, inr, length, get_or, refl, sym, subst, arith}
 use Rattle.std.proofs.lemmas.List.{get_or_default}
+use Rattle.std.proofs.lemmas.Bool.{cases_lt}
 use Rattle.std.proofs.lemmas.Option.{get_or_from_slice_get}
 use Rattle.natural_maps.specs.declared.squares.Square.{Square}
 use Rattle.natural_maps.specs.Squares.{Fits, later_place}
@@ -48,18 +49,12 @@ chain-preserved c =
     record {
       low = omega (arith, is.low);
       key = is.key_of;
-      fit = λ s d a b e. elim (around s c.chain.next) [
-        | inl before ↦ elim (around s i) [ inl less ↦ absurd (is.none s d a less e) | inr same ↦ fit_here s d (omega (arith, same, before)) low ]
+      fit = λ s d a b e. elim (cases_lt s c.chain.next) [
+        | inl before ↦ elim (cases_lt s i) [ inl less ↦ absurd (is.none s d a less e) | inr same ↦ fit_here s d (omega (arith, same, before)) low ]
         | inr after ↦ c.chain.invariant.fit s d after b e
       ];
     }
   where
-    around : (s n : ℕ) → (s < n) ⊎ (n ≤ s)
-    around zero zero = inr (omega arith)
-    around zero (suc n) = inl (omega arith)
-    around (suc s) zero = inr (omega arith)
-    around (suc s) (suc n) = elim (around s n) [ inl a ↦ inl (omega arith) | inr b ↦ inr (omega arith) ]
-
     fit_here : (s : ℕ) (d : Square) → s ≡ c.chain.next - 1 → c.chain.next - 1 < length c.args.squares.now → Fits c.args.q.now c.args.values.now (get_or c.args.squares.now s d)
     fit_here s d e low =
         subst (λ j. Fits c.args.q.now c.args.values.now (get_or c.args.squares.now j d)) (sym e)

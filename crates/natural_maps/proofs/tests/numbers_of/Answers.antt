@@ -1,9 +1,7 @@
-use Rattle.std.proofs.Common.{◌≡◌, ◌<◌, length, [], sym, subst, arith}
+use Rattle.std.proofs.Common.{subst, arith}
 use Rattle.std.proofs.lemmas.Option.{get_or_from_slice_get, slice_get_within}
 use Rattle.finite_lists.specs.Members.{In}
 use Rattle.finite_lists.proofs.Lists.{In_at}
-use Rattle.topos_model.specs.presheaves.Maps.{Components}
-use Rattle.topos_model.specs.presheaves.NaturalMaps.{maps}
 use Rattle.natural_maps.proofs.AllMaps.{maps_are_natural}
 use Rattle.natural_maps.proofs.tests.numbers_of.Goals as goal
 
