@@ -7,3 +7,4 @@ pub mod Uniqueness
 pub mod Bodies
 pub mod Phrases
 pub mod Steps
+pub mod TermSteps

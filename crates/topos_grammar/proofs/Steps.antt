@@ -28,10 +28,10 @@ pub fails_at : {s : Sort} (e : Stop) (C : Class) (K : Kind s) (before toks : Lis
 fails_at NoMemory C K before toks step h = absurd h
 fails_at (At left) C K before toks step (other, is) = (before, step other, is)
 
-eats_at : {s : Sort} {u : Token} {k : Code s} {toks rest : List Token} {r : Read s} → toks ≡ u ∷ rest → Reads k rest r → Reads (eat u k) toks r
+pub eats_at : {s : Sort} {u : Token} {k : Code s} {toks rest : List Token} {r : Read s} → toks ≡ u ∷ rest → Reads k rest r → Reads (eat u k) toks r
 eats_at {s} {u} {k} {toks} {rest} {r} e d = subst (λ z. Reading s (eat u k) z r) (sym e) (eats d)
 
-names_at : {s : Sort} {x : Written} {k : Written → Code s} {toks rest : List Token} {r : Read s} → toks ≡ Name x ∷ rest → Reads (k x) rest r → Reads (name k) toks r
+pub names_at : {s : Sort} {x : Written} {k : Written → Code s} {toks rest : List Token} {r : Read s} → toks ≡ Name x ∷ rest → Reads (k x) rest r → Reads (name k) toks r
 names_at {s} {x} {k} {toks} {rest} {r} e d = subst (λ z. Reading s (name k) z r) (sym e) (names d)
 
 -- ---- types

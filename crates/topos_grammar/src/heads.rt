@@ -1,10 +1,12 @@
 // The front of a list of tokens.
 ghost use Rattle.std.specs.Prelude.{◌≡◌, ◌≢◌, ◌∷◌, ℕ, List, map, length, MatchOption, MatchResult, MatchBool};
 ghost use Rattle.topos_text.specs.Tokens.{token_of, written, Name, Reserved, Sign};
-ghost use Rattle.topos_grammar.specs.Codes.{Is, the, sign, AnyName};
+ghost use Rattle.topos_grammar.specs.Codes.{Is, the, sign, AnyName, binders};
 ghost use Rattle.topos_grammar.specs.Gives.{Misses};
+ghost use Rattle.topos_grammar.specs.Views.{binder_of};
+ghost use Rattle.topos_text.specs.Terms.{binder_word};
 
-use crate::Stop;
+use crate::{Binder, Stop};
 use topos_text::{Symbol, Token, Word, Written};
 
 fn same_word(left: Word, right: Word) -> bool
@@ -57,4 +59,33 @@ pub fn expect<'t, 'a>(tokens: &'t [Token<'a>], want: Symbol) -> Result<&'t [Toke
         Some(rest) => Ok(rest),
         None => Err(Stop::At(tokens.len())),
     }
+}
+
+/// The name that has to stand in front, and the tokens behind it.
+pub fn expect_name<'t, 'a>(tokens: &'t [Token<'a>]) -> Result<(Written<'a>, &'t [Token<'a>]), Stop>
+    ensures { MatchResult result (λ r. map token_of tokens.now ≡ Name (written r.0) ∷ map token_of r.1.now) (λ e. Misses AnyName (map token_of tokens.now) e) }
+{
+    match name(tokens) {
+        Some(found) => Ok(found),
+        None => Err(Stop::At(tokens.len())),
+    }
+}
+
+/// The word of a binder in front, and the tokens behind it.
+pub fn binder<'t, 'a>(tokens: &'t [Token<'a>]) -> Option<(Binder, &'t [Token<'a>])>
+    ensures { MatchOption result (Is binders (map token_of tokens.now) → ⊥) (λ r. map token_of tokens.now ≡ Reserved (binder_word (binder_of r.0)) ∷ map token_of r.1.now) }
+{
+    if let Some(rest) = after_word(tokens, Word::Forall) {
+        return Some((Binder::Forall, rest));
+    }
+    if let Some(rest) = after_word(tokens, Word::Exists) {
+        return Some((Binder::Exists, rest));
+    }
+    if let Some(rest) = after_word(tokens, Word::Unique) {
+        return Some((Binder::Unique, rest));
+    }
+    if let Some(rest) = after_word(tokens, Word::Fun) {
+        return Some((Binder::Fun, rest));
+    }
+    None
 }

@@ -1,13 +1,16 @@
 //! Types and terms from tokens, by the grammar: the tree that the tokens are, or the first token with which no tree goes on.
 #![tactic(auto)]
 
+mod binding;
 mod heads;
 mod laws;
 mod stop;
+mod terms;
 mod tree;
 mod types;
 
 pub use laws::reading_laws;
 pub use stop::Stop;
+pub use terms::any_term;
 pub use tree::{Binder, Binding, TermTree, TypeTree};
 pub use types::any_type;
