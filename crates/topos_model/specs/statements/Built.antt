@@ -2,18 +2,28 @@
 use Rattle.std.specs.Prelude.{Bool, true, false, ◌&&◌, eqb, List, map, reverse}
 use Rattle.std.specs.List.{list_all}
 use Rattle.topos_model.specs.declared.stmt.Stmt.{Stmt}
-use Rattle.topos_model.specs.declared.stmt.Stmt.TheVariants.{Presheaf, Show}
+use Rattle.topos_model.specs.declared.stmt.Stmt.TheVariants.{Presheaf, Map, Product, Coproduct, Equalizer, Coequalizer, Pullback, Pushout, Image, Empty, Hom, Show}
 use Rattle.topos_model.specs.statements.Cells.{is_named}
 use Rattle.topos_model.specs.statements.Needs.{named}
 use Rattle.topos_model.specs.statements.Form.{is_trivial, is_propositional}
 use Rattle.topos_model.specs.statements.Run.{Extent}
 
--- presheaves, and propositional formulas over functors
+-- presheaves, natural maps and their lists, limits, images and colimits, and propositional formulas over functors
 unfoldable pub is_built : Stmt → Bool
 is_built (Presheaf functor raw) = true
+is_built (Map m x y raw) = true
+is_built (Product x y z p q) = true
+is_built (Coproduct x y z p q) = true
+is_built (Equalizer m n z i) = true
+is_built (Coequalizer m n z q) = true
+is_built (Pullback m n z p q) = true
+is_built (Pushout m n z i j) = true
+is_built (Image m z e j) = true
+is_built (Empty z) = true
+is_built (Hom x y) = true
 is_built (Show under ctx φ) = eqb under 0 && list_all is_named ctx.types && is_propositional (map named (reverse ctx.types)) φ
 is_built _ = false
 
--- no covers but the maximal ones, and cells are not counted
+-- no covers but the maximal ones, and cells are not counted together: each statement has the whole budget
 abbrev pub today : Extent
 today = record { statements = is_built; topologies = is_trivial; counts = false }

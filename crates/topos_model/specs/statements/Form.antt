@@ -4,14 +4,16 @@ use Rattle.std.specs.List.{list_all}
 use Rattle.topos_model.specs.declared.raw.RawCat.{RawCat}
 use Rattle.topos_model.specs.declared.raw.RawAlong.{RawAlong}
 use Rattle.topos_model.specs.declared.raw.RawFunctor.{RawFunctor}
+use Rattle.topos_model.specs.declared.raw.RawEntry.{RawEntry}
 use Rattle.topos_model.specs.declared.ty.Ty.{Ty, Base}
 use Rattle.topos_model.specs.declared.term.Term.{Term, Var, Eq', Truth, Falsity, And', Implies', more_of-Term as only, end_of-Term as end}
 use Rattle.topos_model.specs.declared.stmt.Stmt.{Stmt}
-use Rattle.topos_model.specs.declared.stmt.Stmt.TheVariants.{Presheaf, Product, Coproduct, Equalizer, Coequalizer, Pullback, Pushout, Image, Empty, Sheafify, Build, Sub, Show, Lan, Ran}
+use Rattle.topos_model.specs.declared.stmt.Stmt.TheVariants.{Presheaf, Map, Product, Coproduct, Equalizer, Coequalizer, Pullback, Pushout, Image, Empty, Hom, Show}
 use Rattle.topos_model.specs.declared.doc.TopDecl.{TopDecl}
 use Rattle.topos_model.specs.declared.doc.Doc.{Doc}
 use Rattle.topos_model.specs.categories.Category.{has}
 use Rattle.topos_model.specs.categories.Listed.{all_ends}
+use Rattle.topos_model.specs.presheaves.MapFaults.{has_image}
 
 -- how many objects and arrows a category may have, the identities among the arrows
 abbrev pub max_objects : ℕ
@@ -81,34 +83,47 @@ unfoldable pub is_known : ℕ → Ty → Bool
 is_known n (Base m) = ltb m n
 is_known n _ = true
 
--- the numbers of a presheaf and of the types of variables are in range, where n functors are declared before the statement
-unfoldable pub is_in_range : ℕ → List (ℕ × ℕ) → ℕ → Stmt → Bool
-is_in_range objects ends n (Presheaf functor raw) = eqb functor n && is_presheaf_listing objects ends raw
-is_in_range objects ends n (Show under ctx φ) = list_all (is_known n) ctx.types
-is_in_range objects ends n _ = true
+-- entries of a map stand at objects, for each element at most one
+unfoldable pub is_map_listing : ℕ → List RawEntry → Bool
+is_map_listing objects [] = true
+is_map_listing objects (e ∷ rest) = ltb e.at objects && not (has_image rest e.at e.from) && is_map_listing objects rest
 
--- how many functors are declared after a statement
-unfoldable pub declared_after : ℕ → Stmt → ℕ
-declared_after n (Presheaf functor raw) = n + 1
-declared_after n (Product x y functor p q) = n + 1
-declared_after n (Coproduct x y functor p q) = n + 1
-declared_after n (Equalizer l m functor i) = n + 1
-declared_after n (Coequalizer l m functor q) = n + 1
-declared_after n (Pullback l m functor p q) = n + 1
-declared_after n (Pushout l m functor i j) = n + 1
-declared_after n (Image m functor e j) = n + 1
-declared_after n (Empty functor) = n + 1
-declared_after n (Sheafify under x functor e) = n + 1
-declared_after n (Build under functor T u v) = n + 1
-declared_after n (Sub under functor T φ i) = n + 1
-declared_after n (Lan f on functor e) = n + 1
-declared_after n (Ran f on functor e) = n + 1
-declared_after n _ = n
+-- how many functors and maps a statement declares, where it is of a kind that is run
+unfoldable pub declares : Stmt → Option (ℕ × ℕ)
+declares (Presheaf functor raw) = Some (1, 0)
+declares (Map m x y raw) = Some (0, 1)
+declares (Product x y z p q) = Some (1, 2)
+declares (Coproduct x y z p q) = Some (1, 2)
+declares (Equalizer m n z i) = Some (1, 1)
+declares (Coequalizer m n z q) = Some (1, 1)
+declares (Pullback m n z p q) = Some (1, 2)
+declares (Pushout m n z i j) = Some (1, 2)
+declares (Image m z e j) = Some (1, 2)
+declares (Empty z) = Some (1, 0)
+declares (Hom x y) = Some (0, 0)
+declares (Show under ctx φ) = Some (0, 0)
+declares _ = None
 
--- the same of statements in order
-unfoldable pub are_in_range : ℕ → List (ℕ × ℕ) → ℕ → List Stmt → Bool
-are_in_range objects ends n [] = true
-are_in_range objects ends n (stmt ∷ rest) = is_in_range objects ends n stmt && are_in_range objects ends (declared_after n stmt) rest
+-- the numbers that a statement of such a kind uses are in range, where n functors and l maps are declared before it; a functor is declared behind them
+unfoldable pub is_in_range : ℕ → List (ℕ × ℕ) → ℕ → ℕ → Stmt → Bool
+is_in_range objects ends n l (Presheaf functor raw) = eqb functor n && is_presheaf_listing objects ends raw
+is_in_range objects ends n l (Map m x y raw) = ltb x n && ltb y n && is_map_listing objects raw.entries
+is_in_range objects ends n l (Product x y z p q) = eqb z n && ltb x n && ltb y n
+is_in_range objects ends n l (Coproduct x y z p q) = eqb z n && ltb x n && ltb y n
+is_in_range objects ends n l (Equalizer m m' z i) = eqb z n && ltb m l && ltb m' l
+is_in_range objects ends n l (Coequalizer m m' z q) = eqb z n && ltb m l && ltb m' l
+is_in_range objects ends n l (Pullback m m' z p q) = eqb z n && ltb m l && ltb m' l
+is_in_range objects ends n l (Pushout m m' z i j) = eqb z n && ltb m l && ltb m' l
+is_in_range objects ends n l (Image m z e j) = eqb z n && ltb m l
+is_in_range objects ends n l (Hom x y) = ltb x n && ltb y n
+is_in_range objects ends n l (Show under ctx φ) = list_all (is_known n) ctx.types
+is_in_range objects ends n l _ = true
+
+-- the same of statements in order, up to the first of a kind that is not run
+unfoldable pub are_in_range : ℕ → List (ℕ × ℕ) → ℕ → ℕ → List Stmt → Bool
+are_in_range objects ends n l [] = true
+are_in_range objects ends n l (stmt ∷ rest) =
+    elim (declares stmt) [ Some made ↦ is_in_range objects ends n l stmt && are_in_range objects ends (n + made.0) (l + made.1) rest | None ↦ true ]
 
 -- only the maximal sieves cover
 abbrev pub is_trivial : List TopDecl → Bool
@@ -123,4 +138,4 @@ max_statements = 10000
 unfoldable pub has_range : Doc → Bool
 has_range doc =
     leb (doc.site_len + length doc.stmts) max_statements && is_category_listing doc.cat
-    && are_in_range doc.cat.objects (all_ends doc.cat) 0 doc.stmts
+    && are_in_range doc.cat.objects (all_ends doc.cat) 0 0 doc.stmts

@@ -10,7 +10,7 @@ use Rattle.topos_model.specs.declared.answer.End.TheVariants.{Whole, Refused, Bu
 use Rattle.topos_model.specs.declared.fault.Fault.{Fault}
 use Rattle.topos_model.specs.declared.fault.Fault.TheVariants.{NotBuilt}
 use Rattle.topos_model.specs.categories.CategoryFaults.{category_fault}
-use Rattle.topos_model.specs.statements.Declarations.{Declared, nothing, with_types, cells_so_far}
+use Rattle.topos_model.specs.statements.Declarations.{Declared, nothing, with_types, made_between, cells_so_far}
 use Rattle.topos_model.specs.statements.Answers.{Answers}
 use Rattle.topos_model.specs.statements.Refusals.{topologies_fault, IsRefusal, late_refusal}
 
@@ -29,6 +29,10 @@ module _ (extent : Extent) (doc : Doc) where
   unfoldable pub counted : Declared → ℕ
   counted d = cond extent.counts (cells_so_far doc d) 0
 
+  -- the cells behind a statement's answer: where they are not counted together, the statement's own
+  unfoldable pub counted_behind : Declared → Declared → ℕ
+  counted_behind d next = cond extent.counts (cells_so_far doc next) (made_between doc d next)
+
   -- why the document is refused before its statements: topologies that are not run are refused where the category is lawful
   unfoldable pub site_refusal : Option Fault
   site_refusal =
@@ -46,7 +50,7 @@ module _ (extent : Extent) (doc : Doc) (budget : ℕ) where
     pub types : IsCounted d stmt
     pub goes_on : late_refusal doc (with_types d stmt) stmt ≡ None
     pub answers : Answers doc (with_types d stmt) stmt answer next
-    pub within : counted extent doc next ≤ budget
+    pub within : counted_behind extent doc d next ≤ budget
 
   -- the statement is refused
   pub data IsRefused (d : Declared) (stmt : Stmt) : Fault → Type 0 where
@@ -58,7 +62,7 @@ module _ (extent : Extent) (doc : Doc) (budget : ℕ) where
   pub data IsOver (d : Declared) (stmt : Stmt) : Type 0 where
     with_its_types : extent.statements stmt ≡ true → IsRefusal doc d stmt None → budget < counted extent doc (with_types d stmt) → IsOver d stmt
     with_its_answer : (answer : Answer) (next : Declared) → IsCounted d stmt → late_refusal doc (with_types d stmt) stmt ≡ None
-        → Answers doc (with_types d stmt) stmt answer next → budget < counted extent doc next → IsOver d stmt
+        → Answers doc (with_types d stmt) stmt answer next → budget < counted_behind extent doc d next → IsOver d stmt
 
   -- the statements from number n on
   pub data Runs : Declared → ℕ → List Stmt → List Answer → End → Type 0 where
