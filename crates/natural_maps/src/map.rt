@@ -82,6 +82,13 @@ impl NatMap {
         NatMap { rows }
     }
 
+    /// The components, at the objects in order.
+    pub fn rows(&self) -> &[Row<u32>]
+        ensures { result.now ≡ self.now }
+    {
+        self.rows.as_slice()
+    }
+
     /// The component at the object c.
     pub fn row(&self, c: u32) -> &[u32]
         requires { c < length self.now }

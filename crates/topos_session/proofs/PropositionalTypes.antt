@@ -1,15 +1,20 @@
 -- A propositional formula over functors is a formula, and applies no map.
-use Rattle.std.proofs.Common.{◌≡◌, ℕ, zero, suc, true, List, [], ◌∷◌, ◌++◌, map, get_or, slice_get, Option, Some, None, Ok, refl, sym, ap, ◌∙◌}
+use Rattle.std.proofs.Common.{◌≡◌, ℕ, zero, suc, true, ◌&&◌, eqb, List, [], ◌∷◌, ◌++◌, map, reverse, get_or, slice_get, Option, Some, None, Ok, refl, sym, ap, ◌∙◌}
 use Rattle.std.specs.List.{list_all}
 use Rattle.std.proofs.lemmas.Bool.{and_parts, eqb-true, eq-eqb}
 use Rattle.topos_model.specs.declared.ty.Ty.{Ty, Base, One, Omega}
 use Rattle.topos_model.specs.declared.term.Term.{Term, Var, Eq', Truth, Falsity, And', Implies', more_of-Term as only, end_of-Term as end}
 use Rattle.topos_model.specs.declared.context.MapTy.{MapTy}
+use Rattle.topos_model.specs.declared.context.Ctx.{Ctx}
+use Rattle.topos_model.specs.declared.stmt.Stmt.TheVariants.{Show}
 use Rattle.topos_model.specs.types.SameType.{same_type}
 use Rattle.topos_model.specs.formulas.Typing.{typed}
 use Rattle.topos_model.specs.statements.Needs.{named}
 use Rattle.topos_model.specs.statements.Cells.{is_named}
 use Rattle.topos_model.specs.statements.StatementFaults.{applied}
+use Rattle.topos_model.specs.statements.Built.{is_built}
+use Rattle.finite_lists.proofs.Lists.{all_each, each_all}
+use Rattle.topos_session.proofs.ForcedAlong.{In-reverse}
 use Rattle.topos_model.specs.statements.Form.{variable_functor, same_functor, is_propositional}
 use denote.Hole.Carrier
 use Rattle.topos_model.specs.declared.ty.Ty.TheBlock.{hidden-the_row-Ty-0}
@@ -78,3 +83,19 @@ propositional_applies_none Γ (Implies' _ (only φ end) _ (only ψ end)) form =
     let (left, right) = and_parts _ _ form in
     rw (propositional_applies_none Γ φ left, propositional_applies_none Γ ψ right) refl
 propositional_applies_none Γ _ form = cc
+
+-- the parts of a formula that is run
+pub record IsBuiltFormula (under : ℕ) (ctx : Ctx) (φ : Term) : Type 0 where
+  pub first_topology : under ≡ 0
+  pub functors : list_all is_named ctx.types ≡ true
+  pub form : is_propositional (map named (reverse ctx.types)) φ ≡ true
+
+pub built_formula : (under : ℕ) (ctx : Ctx) (φ : Term) → is_built (Show under ctx φ) ≡ true → IsBuiltFormula under ctx φ
+unfolding is_built
+built_formula under ctx φ built =
+    let (head, form) = and_parts (eqb under 0 && list_all is_named ctx.types) (is_propositional (map named (reverse ctx.types)) φ) built in
+    let (first, all) = and_parts (eqb under 0) (list_all is_named ctx.types) head in
+    record { first_topology = eqb-true under 0 first; functors = all; form = form }
+
+pub named_reversed : (types : List Ty) → list_all is_named types ≡ true → list_all is_named (reverse types) ≡ true
+named_reversed types all = each_all is_named (reverse types) (λ T i. all_each is_named types T all (In-reverse types T i))

@@ -1,125 +1,219 @@
 -- The range of a statement's numbers, and what it declares, a form of statement at a time.
-use Rattle.std.proofs.Common.{◌≡◌, ℕ, ◌+◌, true, ◌&&◌, eqb, List, refl}
+use Rattle.std.proofs.Common.{◌≡◌, ℕ, true, ◌&&◌, eqb, ltb, List, Some, None, refl}
 use Rattle.std.specs.List.{list_all}
 use Rattle.topos_model.specs.declared.raw.RawFunctor.{RawFunctor}
+use Rattle.topos_model.specs.declared.raw.RawMap.{RawMap}
 use Rattle.topos_model.specs.declared.context.Ctx.{Ctx}
-use Rattle.topos_model.specs.declared.ty.Ty.{Ty}
 use Rattle.topos_model.specs.declared.term.Term.{Term}
 use Rattle.topos_model.specs.declared.stmt.Stmt.{Stmt}
-use Rattle.topos_model.specs.declared.stmt.Stmt.TheVariants.{Presheaf, Product, Coproduct, Equalizer, Coequalizer, Pullback, Pushout, Image, Empty, Sheafify, Build, Sub, Lan, Ran, Show}
-use Rattle.topos_model.specs.statements.Form.{is_presheaf_listing, is_known, is_in_range, declared_after}
+use Rattle.topos_model.specs.declared.stmt.Stmt.TheVariants.{Presheaf, Map, Product, Coproduct, Equalizer, Coequalizer, Pullback, Pushout, Image, Empty, Hom, Show}
+use Rattle.topos_session.specs.Constructions.{is_construction}
+use Rattle.topos_model.specs.statements.Form.{is_presheaf_listing, is_map_listing, is_known, declares, is_in_range}
 
-pub range-Presheaf : (objects : ℕ) (ends : List (ℕ × ℕ)) (n functor : ℕ) (raw : RawFunctor) →
-    is_in_range objects ends n (Presheaf functor raw) ≡ (eqb functor n && is_presheaf_listing objects ends raw)
+pub range-Presheaf : (objects : ℕ) (ends : List (ℕ × ℕ)) (n l : ℕ) (functor : ℕ) (raw : RawFunctor) → is_in_range objects ends n l (Presheaf functor raw) ≡ (eqb functor n && is_presheaf_listing objects ends raw)
 unfolding is_in_range
-range-Presheaf objects ends n functor raw = refl
+range-Presheaf objects ends n l functor raw = refl
 
-pub range-Show : (objects : ℕ) (ends : List (ℕ × ℕ)) (n under : ℕ) (ctx : Ctx) (φ : Term) → is_in_range objects ends n (Show under ctx φ) ≡ list_all (is_known n) ctx.types
+pub range-Map : (objects : ℕ) (ends : List (ℕ × ℕ)) (n l : ℕ) (m x y : ℕ) (raw : RawMap) → is_in_range objects ends n l (Map m x y raw) ≡ (ltb x n && ltb y n && is_map_listing objects raw.entries)
 unfolding is_in_range
-range-Show objects ends n under ctx φ = refl
+range-Map objects ends n l m x y raw = refl
 
-pub range-other : (objects : ℕ) (ends : List (ℕ × ℕ)) (n : ℕ) (stmt : Stmt) →
-    ((functor : ℕ) (raw : RawFunctor) → stmt ≡ Presheaf functor raw → ⊥) → ((under : ℕ) (ctx : Ctx) (φ : Term) → stmt ≡ Show under ctx φ → ⊥) →
-    is_in_range objects ends n stmt ≡ true
+pub range-Product : (objects : ℕ) (ends : List (ℕ × ℕ)) (n l : ℕ) (x y z p q : ℕ) → is_in_range objects ends n l (Product x y z p q) ≡ (eqb z n && ltb x n && ltb y n)
 unfolding is_in_range
-range-other objects ends n (Presheaf functor raw) presheaf show = absurd (presheaf functor raw refl)
-range-other objects ends n (Show under ctx φ) presheaf show = absurd (show under ctx φ refl)
-range-other objects ends n _ presheaf show = refl
+range-Product objects ends n l x y z p q = refl
 
-pub ruleset range_rules = (range-Presheaf, range-Show)
+pub range-Coproduct : (objects : ℕ) (ends : List (ℕ × ℕ)) (n l : ℕ) (x y z p q : ℕ) → is_in_range objects ends n l (Coproduct x y z p q) ≡ (eqb z n && ltb x n && ltb y n)
+unfolding is_in_range
+range-Coproduct objects ends n l x y z p q = refl
 
-pub declared_after-Presheaf : (n : ℕ) (functor : ℕ) (raw : RawFunctor) → declared_after n (Presheaf functor raw) ≡ n + 1
-unfolding declared_after
-declared_after-Presheaf n functor raw = refl
+pub range-Equalizer : (objects : ℕ) (ends : List (ℕ × ℕ)) (n l : ℕ) (m m' z i : ℕ) → is_in_range objects ends n l (Equalizer m m' z i) ≡ (eqb z n && ltb m l && ltb m' l)
+unfolding is_in_range
+range-Equalizer objects ends n l m m' z i = refl
 
-pub declared_after-Product : (n : ℕ) (x : ℕ) (y : ℕ) (functor : ℕ) (p : ℕ) (q : ℕ) → declared_after n (Product x y functor p q) ≡ n + 1
-unfolding declared_after
-declared_after-Product n x y functor p q = refl
+pub range-Coequalizer : (objects : ℕ) (ends : List (ℕ × ℕ)) (n l : ℕ) (m m' z q : ℕ) → is_in_range objects ends n l (Coequalizer m m' z q) ≡ (eqb z n && ltb m l && ltb m' l)
+unfolding is_in_range
+range-Coequalizer objects ends n l m m' z q = refl
 
-pub declared_after-Coproduct : (n : ℕ) (x : ℕ) (y : ℕ) (functor : ℕ) (p : ℕ) (q : ℕ) → declared_after n (Coproduct x y functor p q) ≡ n + 1
-unfolding declared_after
-declared_after-Coproduct n x y functor p q = refl
+pub range-Pullback : (objects : ℕ) (ends : List (ℕ × ℕ)) (n l : ℕ) (m m' z p q : ℕ) → is_in_range objects ends n l (Pullback m m' z p q) ≡ (eqb z n && ltb m l && ltb m' l)
+unfolding is_in_range
+range-Pullback objects ends n l m m' z p q = refl
 
-pub declared_after-Equalizer : (n : ℕ) (l : ℕ) (m : ℕ) (functor : ℕ) (i : ℕ) → declared_after n (Equalizer l m functor i) ≡ n + 1
-unfolding declared_after
-declared_after-Equalizer n l m functor i = refl
+pub range-Pushout : (objects : ℕ) (ends : List (ℕ × ℕ)) (n l : ℕ) (m m' z i j : ℕ) → is_in_range objects ends n l (Pushout m m' z i j) ≡ (eqb z n && ltb m l && ltb m' l)
+unfolding is_in_range
+range-Pushout objects ends n l m m' z i j = refl
 
-pub declared_after-Coequalizer : (n : ℕ) (l : ℕ) (m : ℕ) (functor : ℕ) (q : ℕ) → declared_after n (Coequalizer l m functor q) ≡ n + 1
-unfolding declared_after
-declared_after-Coequalizer n l m functor q = refl
+pub range-Image : (objects : ℕ) (ends : List (ℕ × ℕ)) (n l : ℕ) (m z e j : ℕ) → is_in_range objects ends n l (Image m z e j) ≡ (eqb z n && ltb m l)
+unfolding is_in_range
+range-Image objects ends n l m z e j = refl
 
-pub declared_after-Pullback : (n : ℕ) (l : ℕ) (m : ℕ) (functor : ℕ) (p : ℕ) (q : ℕ) → declared_after n (Pullback l m functor p q) ≡ n + 1
-unfolding declared_after
-declared_after-Pullback n l m functor p q = refl
+pub range-Hom : (objects : ℕ) (ends : List (ℕ × ℕ)) (n l : ℕ) (x y : ℕ) → is_in_range objects ends n l (Hom x y) ≡ (ltb x n && ltb y n)
+unfolding is_in_range
+range-Hom objects ends n l x y = refl
 
-pub declared_after-Pushout : (n : ℕ) (l : ℕ) (m : ℕ) (functor : ℕ) (i : ℕ) (j : ℕ) → declared_after n (Pushout l m functor i j) ≡ n + 1
-unfolding declared_after
-declared_after-Pushout n l m functor i j = refl
+pub range-Show : (objects : ℕ) (ends : List (ℕ × ℕ)) (n l : ℕ) (under : ℕ) (ctx : Ctx) (φ : Term) → is_in_range objects ends n l (Show under ctx φ) ≡ (list_all (is_known n) ctx.types)
+unfolding is_in_range
+range-Show objects ends n l under ctx φ = refl
 
-pub declared_after-Image : (n : ℕ) (m : ℕ) (functor : ℕ) (e : ℕ) (j : ℕ) → declared_after n (Image m functor e j) ≡ n + 1
-unfolding declared_after
-declared_after-Image n m functor e j = refl
-
-pub declared_after-Empty : (n : ℕ) (functor : ℕ) → declared_after n (Empty functor) ≡ n + 1
-unfolding declared_after
-declared_after-Empty n functor = refl
-
-pub declared_after-Sheafify : (n : ℕ) (under : ℕ) (x : ℕ) (functor : ℕ) (e : ℕ) → declared_after n (Sheafify under x functor e) ≡ n + 1
-unfolding declared_after
-declared_after-Sheafify n under x functor e = refl
-
-pub declared_after-Build : (n : ℕ) (under : ℕ) (functor : ℕ) (T : Ty) (u : ℕ) (v : ℕ) → declared_after n (Build under functor T u v) ≡ n + 1
-unfolding declared_after
-declared_after-Build n under functor T u v = refl
-
-pub declared_after-Sub : (n : ℕ) (under : ℕ) (functor : ℕ) (T : Ty) (φ : Term) (i : ℕ) → declared_after n (Sub under functor T φ i) ≡ n + 1
-unfolding declared_after
-declared_after-Sub n under functor T φ i = refl
-
-pub declared_after-Lan : (n : ℕ) (f : ℕ) (on : ℕ) (functor : ℕ) (e : ℕ) → declared_after n (Lan f on functor e) ≡ n + 1
-unfolding declared_after
-declared_after-Lan n f on functor e = refl
-
-pub declared_after-Ran : (n : ℕ) (f : ℕ) (on : ℕ) (functor : ℕ) (e : ℕ) → declared_after n (Ran f on functor e) ≡ n + 1
-unfolding declared_after
-declared_after-Ran n f on functor e = refl
-
-pub declared_after-Show : (n under : ℕ) (ctx : Ctx) (φ : Term) → declared_after n (Show under ctx φ) ≡ n
-unfolding declared_after
-declared_after-Show n under ctx φ = refl
-
--- every other statement declares no functor
-pub declared_after-other : (n : ℕ) (stmt : Stmt)
+pub range-other : (objects : ℕ) (ends : List (ℕ × ℕ)) (n l : ℕ) (stmt : Stmt)
     → ((functor : ℕ) (raw : RawFunctor) → stmt ≡ Presheaf functor raw → ⊥)
-    → ((x : ℕ) (y : ℕ) (functor : ℕ) (p : ℕ) (q : ℕ) → stmt ≡ Product x y functor p q → ⊥)
-    → ((x : ℕ) (y : ℕ) (functor : ℕ) (p : ℕ) (q : ℕ) → stmt ≡ Coproduct x y functor p q → ⊥)
-    → ((l : ℕ) (m : ℕ) (functor : ℕ) (i : ℕ) → stmt ≡ Equalizer l m functor i → ⊥)
-    → ((l : ℕ) (m : ℕ) (functor : ℕ) (q : ℕ) → stmt ≡ Coequalizer l m functor q → ⊥)
-    → ((l : ℕ) (m : ℕ) (functor : ℕ) (p : ℕ) (q : ℕ) → stmt ≡ Pullback l m functor p q → ⊥)
-    → ((l : ℕ) (m : ℕ) (functor : ℕ) (i : ℕ) (j : ℕ) → stmt ≡ Pushout l m functor i j → ⊥)
-    → ((m : ℕ) (functor : ℕ) (e : ℕ) (j : ℕ) → stmt ≡ Image m functor e j → ⊥)
-    → ((functor : ℕ) → stmt ≡ Empty functor → ⊥)
-    → ((under : ℕ) (x : ℕ) (functor : ℕ) (e : ℕ) → stmt ≡ Sheafify under x functor e → ⊥)
-    → ((under : ℕ) (functor : ℕ) (T : Ty) (u : ℕ) (v : ℕ) → stmt ≡ Build under functor T u v → ⊥)
-    → ((under : ℕ) (functor : ℕ) (T : Ty) (φ : Term) (i : ℕ) → stmt ≡ Sub under functor T φ i → ⊥)
-    → ((f : ℕ) (on : ℕ) (functor : ℕ) (e : ℕ) → stmt ≡ Lan f on functor e → ⊥)
-    → ((f : ℕ) (on : ℕ) (functor : ℕ) (e : ℕ) → stmt ≡ Ran f on functor e → ⊥)
-    → declared_after n stmt ≡ n
-unfolding declared_after
-declared_after-other n (Presheaf functor raw) h _ _ _ _ _ _ _ _ _ _ _ _ _ = absurd (h functor raw refl)
-declared_after-other n (Product x y functor p q) _ h _ _ _ _ _ _ _ _ _ _ _ _ = absurd (h x y functor p q refl)
-declared_after-other n (Coproduct x y functor p q) _ _ h _ _ _ _ _ _ _ _ _ _ _ = absurd (h x y functor p q refl)
-declared_after-other n (Equalizer l m functor i) _ _ _ h _ _ _ _ _ _ _ _ _ _ = absurd (h l m functor i refl)
-declared_after-other n (Coequalizer l m functor q) _ _ _ _ h _ _ _ _ _ _ _ _ _ = absurd (h l m functor q refl)
-declared_after-other n (Pullback l m functor p q) _ _ _ _ _ h _ _ _ _ _ _ _ _ = absurd (h l m functor p q refl)
-declared_after-other n (Pushout l m functor i j) _ _ _ _ _ _ h _ _ _ _ _ _ _ = absurd (h l m functor i j refl)
-declared_after-other n (Image m functor e j) _ _ _ _ _ _ _ h _ _ _ _ _ _ = absurd (h m functor e j refl)
-declared_after-other n (Empty functor) _ _ _ _ _ _ _ _ h _ _ _ _ _ = absurd (h functor refl)
-declared_after-other n (Sheafify under x functor e) _ _ _ _ _ _ _ _ _ h _ _ _ _ = absurd (h under x functor e refl)
-declared_after-other n (Build under functor T u v) _ _ _ _ _ _ _ _ _ _ h _ _ _ = absurd (h under functor T u v refl)
-declared_after-other n (Sub under functor T φ i) _ _ _ _ _ _ _ _ _ _ _ h _ _ = absurd (h under functor T φ i refl)
-declared_after-other n (Lan f on functor e) _ _ _ _ _ _ _ _ _ _ _ _ h _ = absurd (h f on functor e refl)
-declared_after-other n (Ran f on functor e) _ _ _ _ _ _ _ _ _ _ _ _ _ h = absurd (h f on functor e refl)
-declared_after-other n _ _ _ _ _ _ _ _ _ _ _ _ _ _ _ = refl
+    → ((m x y : ℕ) (raw : RawMap) → stmt ≡ Map m x y raw → ⊥)
+    → ((x y z p q : ℕ) → stmt ≡ Product x y z p q → ⊥)
+    → ((x y z p q : ℕ) → stmt ≡ Coproduct x y z p q → ⊥)
+    → ((m m' z i : ℕ) → stmt ≡ Equalizer m m' z i → ⊥)
+    → ((m m' z q : ℕ) → stmt ≡ Coequalizer m m' z q → ⊥)
+    → ((m m' z p q : ℕ) → stmt ≡ Pullback m m' z p q → ⊥)
+    → ((m m' z i j : ℕ) → stmt ≡ Pushout m m' z i j → ⊥)
+    → ((m z e j : ℕ) → stmt ≡ Image m z e j → ⊥)
+    → ((x y : ℕ) → stmt ≡ Hom x y → ⊥)
+    → ((under : ℕ) (ctx : Ctx) (φ : Term) → stmt ≡ Show under ctx φ → ⊥)
+    → is_in_range objects ends n l stmt ≡ true
+unfolding is_in_range
+range-other objects ends n l (Presheaf functor raw) h _ _ _ _ _ _ _ _ _ _ = absurd (h functor raw refl)
+range-other objects ends n l (Map m x y raw) _ h _ _ _ _ _ _ _ _ _ = absurd (h m x y raw refl)
+range-other objects ends n l (Product x y z p q) _ _ h _ _ _ _ _ _ _ _ = absurd (h x y z p q refl)
+range-other objects ends n l (Coproduct x y z p q) _ _ _ h _ _ _ _ _ _ _ = absurd (h x y z p q refl)
+range-other objects ends n l (Equalizer m m' z i) _ _ _ _ h _ _ _ _ _ _ = absurd (h m m' z i refl)
+range-other objects ends n l (Coequalizer m m' z q) _ _ _ _ _ h _ _ _ _ _ = absurd (h m m' z q refl)
+range-other objects ends n l (Pullback m m' z p q) _ _ _ _ _ _ h _ _ _ _ = absurd (h m m' z p q refl)
+range-other objects ends n l (Pushout m m' z i j) _ _ _ _ _ _ _ h _ _ _ = absurd (h m m' z i j refl)
+range-other objects ends n l (Image m z e j) _ _ _ _ _ _ _ _ h _ _ = absurd (h m z e j refl)
+range-other objects ends n l (Hom x y) _ _ _ _ _ _ _ _ _ h _ = absurd (h x y refl)
+range-other objects ends n l (Show under ctx φ) _ _ _ _ _ _ _ _ _ _ h = absurd (h under ctx φ refl)
+range-other objects ends n l _ _ _ _ _ _ _ _ _ _ _ _ = refl
 
-pub ruleset declared_rules = (declared_after-Presheaf, declared_after-Product, declared_after-Coproduct, declared_after-Equalizer, declared_after-Coequalizer, declared_after-Pullback, declared_after-Pushout, declared_after-Image, declared_after-Empty, declared_after-Sheafify, declared_after-Build, declared_after-Sub, declared_after-Lan, declared_after-Ran)
+pub ruleset range_rules = (range-Presheaf, range-Map, range-Product, range-Coproduct, range-Equalizer, range-Coequalizer, range-Pullback, range-Pushout, range-Image, range-Hom, range-Show)
+
+pub declares-Presheaf : (functor : ℕ) (raw : RawFunctor) → declares (Presheaf functor raw) ≡ Some (1, 0)
+unfolding declares
+declares-Presheaf functor raw = refl
+
+pub declares-Map : (m x y : ℕ) (raw : RawMap) → declares (Map m x y raw) ≡ Some (0, 1)
+unfolding declares
+declares-Map m x y raw = refl
+
+pub declares-Product : (x y z p q : ℕ) → declares (Product x y z p q) ≡ Some (1, 2)
+unfolding declares
+declares-Product x y z p q = refl
+
+pub declares-Coproduct : (x y z p q : ℕ) → declares (Coproduct x y z p q) ≡ Some (1, 2)
+unfolding declares
+declares-Coproduct x y z p q = refl
+
+pub declares-Equalizer : (m m' z i : ℕ) → declares (Equalizer m m' z i) ≡ Some (1, 1)
+unfolding declares
+declares-Equalizer m m' z i = refl
+
+pub declares-Coequalizer : (m m' z q : ℕ) → declares (Coequalizer m m' z q) ≡ Some (1, 1)
+unfolding declares
+declares-Coequalizer m m' z q = refl
+
+pub declares-Pullback : (m m' z p q : ℕ) → declares (Pullback m m' z p q) ≡ Some (1, 2)
+unfolding declares
+declares-Pullback m m' z p q = refl
+
+pub declares-Pushout : (m m' z i j : ℕ) → declares (Pushout m m' z i j) ≡ Some (1, 2)
+unfolding declares
+declares-Pushout m m' z i j = refl
+
+pub declares-Image : (m z e j : ℕ) → declares (Image m z e j) ≡ Some (1, 2)
+unfolding declares
+declares-Image m z e j = refl
+
+pub declares-Empty : (z : ℕ) → declares (Empty z) ≡ Some (1, 0)
+unfolding declares
+declares-Empty z = refl
+
+pub declares-Hom : (x y : ℕ) → declares (Hom x y) ≡ Some (0, 0)
+unfolding declares
+declares-Hom x y = refl
+
+pub declares-Show : (under : ℕ) (ctx : Ctx) (φ : Term) → declares (Show under ctx φ) ≡ Some (0, 0)
+unfolding declares
+declares-Show under ctx φ = refl
+
+pub declares-other : (stmt : Stmt)
+    → ((functor : ℕ) (raw : RawFunctor) → stmt ≡ Presheaf functor raw → ⊥)
+    → ((m x y : ℕ) (raw : RawMap) → stmt ≡ Map m x y raw → ⊥)
+    → ((x y z p q : ℕ) → stmt ≡ Product x y z p q → ⊥)
+    → ((x y z p q : ℕ) → stmt ≡ Coproduct x y z p q → ⊥)
+    → ((m m' z i : ℕ) → stmt ≡ Equalizer m m' z i → ⊥)
+    → ((m m' z q : ℕ) → stmt ≡ Coequalizer m m' z q → ⊥)
+    → ((m m' z p q : ℕ) → stmt ≡ Pullback m m' z p q → ⊥)
+    → ((m m' z i j : ℕ) → stmt ≡ Pushout m m' z i j → ⊥)
+    → ((m z e j : ℕ) → stmt ≡ Image m z e j → ⊥)
+    → ((z : ℕ) → stmt ≡ Empty z → ⊥)
+    → ((x y : ℕ) → stmt ≡ Hom x y → ⊥)
+    → ((under : ℕ) (ctx : Ctx) (φ : Term) → stmt ≡ Show under ctx φ → ⊥)
+    → declares stmt ≡ None
+unfolding declares
+declares-other (Presheaf functor raw) h _ _ _ _ _ _ _ _ _ _ _ = absurd (h functor raw refl)
+declares-other (Map m x y raw) _ h _ _ _ _ _ _ _ _ _ _ = absurd (h m x y raw refl)
+declares-other (Product x y z p q) _ _ h _ _ _ _ _ _ _ _ _ = absurd (h x y z p q refl)
+declares-other (Coproduct x y z p q) _ _ _ h _ _ _ _ _ _ _ _ = absurd (h x y z p q refl)
+declares-other (Equalizer m m' z i) _ _ _ _ h _ _ _ _ _ _ _ = absurd (h m m' z i refl)
+declares-other (Coequalizer m m' z q) _ _ _ _ _ h _ _ _ _ _ _ = absurd (h m m' z q refl)
+declares-other (Pullback m m' z p q) _ _ _ _ _ _ h _ _ _ _ _ = absurd (h m m' z p q refl)
+declares-other (Pushout m m' z i j) _ _ _ _ _ _ _ h _ _ _ _ = absurd (h m m' z i j refl)
+declares-other (Image m z e j) _ _ _ _ _ _ _ _ h _ _ _ = absurd (h m z e j refl)
+declares-other (Empty z) _ _ _ _ _ _ _ _ _ h _ _ = absurd (h z refl)
+declares-other (Hom x y) _ _ _ _ _ _ _ _ _ _ h _ = absurd (h x y refl)
+declares-other (Show under ctx φ) _ _ _ _ _ _ _ _ _ _ _ h = absurd (h under ctx φ refl)
+declares-other _ _ _ _ _ _ _ _ _ _ _ _ _ = refl
+
+pub ruleset declared_rules = (declares-Presheaf, declares-Map, declares-Product, declares-Coproduct, declares-Equalizer, declares-Coequalizer, declares-Pullback, declares-Pushout, declares-Image, declares-Empty, declares-Hom, declares-Show)
+
+pub construction-Product : (x y z p q : ℕ) → is_construction (Product x y z p q) ≡ true
+unfolding is_construction
+construction-Product x y z p q = refl
+
+pub construction-Coproduct : (x y z p q : ℕ) → is_construction (Coproduct x y z p q) ≡ true
+unfolding is_construction
+construction-Coproduct x y z p q = refl
+
+pub construction-Equalizer : (m n z i : ℕ) → is_construction (Equalizer m n z i) ≡ true
+unfolding is_construction
+construction-Equalizer m n z i = refl
+
+pub construction-Coequalizer : (m n z q : ℕ) → is_construction (Coequalizer m n z q) ≡ true
+unfolding is_construction
+construction-Coequalizer m n z q = refl
+
+pub construction-Pullback : (m n z p q : ℕ) → is_construction (Pullback m n z p q) ≡ true
+unfolding is_construction
+construction-Pullback m n z p q = refl
+
+pub construction-Pushout : (m n z i j : ℕ) → is_construction (Pushout m n z i j) ≡ true
+unfolding is_construction
+construction-Pushout m n z i j = refl
+
+pub construction-Image : (m z e j : ℕ) → is_construction (Image m z e j) ≡ true
+unfolding is_construction
+construction-Image m z e j = refl
+
+pub construction-Empty : (z : ℕ) → is_construction (Empty z) ≡ true
+unfolding is_construction
+construction-Empty z = refl
+
+pub ruleset kind_rules = (construction-Product, construction-Coproduct, construction-Equalizer, construction-Coequalizer, construction-Pullback, construction-Pushout, construction-Image, construction-Empty)
+
+-- there is no other construction
+pub no_other_construction : (stmt : Stmt) → is_construction stmt ≡ true
+    → ((x y z p q : ℕ) → stmt ≡ Product x y z p q → ⊥)
+    → ((x y z p q : ℕ) → stmt ≡ Coproduct x y z p q → ⊥)
+    → ((m n z i : ℕ) → stmt ≡ Equalizer m n z i → ⊥)
+    → ((m n z q : ℕ) → stmt ≡ Coequalizer m n z q → ⊥)
+    → ((m n z p q : ℕ) → stmt ≡ Pullback m n z p q → ⊥)
+    → ((m n z i j : ℕ) → stmt ≡ Pushout m n z i j → ⊥)
+    → ((m z e j : ℕ) → stmt ≡ Image m z e j → ⊥)
+    → ((z : ℕ) → stmt ≡ Empty z → ⊥)
+    → ⊥
+unfolding is_construction
+no_other_construction (Product x y z p q) kind h _ _ _ _ _ _ _ = h x y z p q refl
+no_other_construction (Coproduct x y z p q) kind _ h _ _ _ _ _ _ = h x y z p q refl
+no_other_construction (Equalizer m n z i) kind _ _ h _ _ _ _ _ = h m n z i refl
+no_other_construction (Coequalizer m n z q) kind _ _ _ h _ _ _ _ = h m n z q refl
+no_other_construction (Pullback m n z p q) kind _ _ _ _ h _ _ _ = h m n z p q refl
+no_other_construction (Pushout m n z i j) kind _ _ _ _ _ h _ _ = h m n z i j refl
+no_other_construction (Image m z e j) kind _ _ _ _ _ _ h _ = h m z e j refl
+no_other_construction (Empty z) kind _ _ _ _ _ _ _ h = h z refl
+no_other_construction _ kind _ _ _ _ _ _ _ _ = cc

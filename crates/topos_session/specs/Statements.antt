@@ -1,26 +1,34 @@
--- What the statements that are run answer over presheaves, and why they are refused.
-use Rattle.std.specs.Prelude.{◌≡◌, not, List, [], ◌∷◌, ◌++◌, map, reverse, length, Option, Some, None, ⊤}
+-- What the statements that are run answer over declared functors and maps, and why they are refused.
+use Rattle.std.specs.Prelude.{◌≡◌, ℕ, ◌+◌, ◌-◌, ◌≤◌, ◌<◌, true, false, not, List, map, reverse, length, Option, Some, None, ⊤}
 use Rattle.finite_lists.specs.First.{some_if}
 use Rattle.topos_model.specs.declared.stmt.Stmt.{Stmt}
 use Rattle.topos_model.specs.declared.stmt.Stmt.TheVariants as statement
 use Rattle.topos_model.specs.declared.answer.Answer.{Answer}
-use Rattle.topos_model.specs.declared.answer.Answer.TheVariants.{Quiet, Shown}
+use Rattle.topos_model.specs.declared.answer.Answer.TheVariants.{Quiet, Built, Maps, Shown}
 use Rattle.topos_model.specs.declared.fault.Fault.{Fault}
 use Rattle.topos_model.specs.declared.fault.Fault.TheVariants as refused
 use Rattle.presheaf_core.specs.declared.fault.FunctorFault.{FunctorFault}
 use Rattle.presheaf_core.specs.declared.fault.FunctorFault.TheVariants as presheaf_fault
+use Rattle.natural_maps.specs.declared.fault.MapFault.{MapFault}
+use Rattle.natural_maps.specs.declared.fault.MapFault.TheVariants as map_fault
 use Rattle.topos_session.specs.declared.stop.Stop.{Stop}
 use Rattle.topos_session.specs.declared.stop.Stop.TheVariants as stop
+use Rattle.topos_session.specs.declared.declarations.FunctorMap.{FunctorMap}
+use Rattle.topos_session.specs.declared.declarations.Declarations.{Declarations}
 use Rattle.topos_model.specs.categories.Category.{Category}
 use Rattle.topos_model.specs.types.Types.{Presheaf}
 use Rattle.topos_model.specs.formulas.Forcing.{shown}
 use Rattle.topos_model.specs.categories.Filling.{filled_presheaf}
+use Rattle.topos_model.specs.presheaves.NaturalMaps.{maps}
 use Rattle.topos_model.specs.presheaves.PresheafFaults.{presheaf_fault as fault_of_presheaf}
-use Rattle.topos_model.specs.statements.Cells.{objects_of}
-use Rattle.topos_model.specs.statements.Answers.{tuple_of}
-use Rattle.topos_model.specs.statements.Form.{declared_after}
+use Rattle.topos_model.specs.presheaves.MapFaults.{listed_map, map_fault as fault_of_map}
+use Rattle.topos_model.specs.statements.Cells.{objects_of, hom_cells}
+use Rattle.topos_model.specs.statements.Answers.{tuple_of, shape_of, map_shape, functor_map}
+use Rattle.topos_model.specs.statements.Form.{declares}
 use Rattle.topos_model.specs.statements.Built.{is_built}
-use Rattle.topos_session.specs.Variables.{AreFunctors, presheaf_world}
+use Rattle.topos_session.specs.Variables.{functor_at, presheaf_world}
+use Rattle.topos_session.specs.Declarations.{declared_map, AreLawful, with_functor, with_presheaf, with_map, with_cells, made}
+use Rattle.topos_session.specs.Constructions.{is_construction, between, property, fit}
 
 -- the stop by a fault of a listed presheaf
 abbrev pub presheaf_stop : FunctorFault → Stop
@@ -29,27 +37,62 @@ presheaf_stop (presheaf_fault.NotTotal f x) = stop.Refused (refused.NotTotal f x
 presheaf_stop (presheaf_fault.NotFunctorial g f x) = stop.Refused (refused.NotFunctorial g f x)
 presheaf_stop presheaf_fault.NoMemory = stop.NoMemory
 
--- what a statement answers over functors on k, and the functors behind it
-abbrev pub AnswersOver : Category → List Presheaf → Stmt → Answer → List Presheaf → Type 0
-AnswersOver k functors (statement.Presheaf functor raw) answer after = (answer ≡ Quiet) × (after ≡ functors ++ filled_presheaf k raw ∷ [])
-AnswersOver k functors (statement.Show under ctx φ) answer after =
-    (answer ≡ Shown ctx (map (λ c. map tuple_of (shown (presheaf_world k functors) (reverse ctx.types) φ c)) (objects_of k))) × (after ≡ functors)
-AnswersOver k functors _ answer after = ⊥
+-- the stop by a fault of a listed map
+abbrev pub map_stop : MapFault → Stop
+map_stop (map_fault.NoElement c k) = stop.Refused (refused.NoElement c k)
+map_stop (map_fault.MapNotTotal c x) = stop.Refused (refused.MapNotTotal c x)
+map_stop (map_fault.NotNatural f x) = stop.Refused (refused.NotNatural f x)
+map_stop map_fault.NoMemory = stop.NoMemory
+
+-- a functor with the property that the statement names is made, shown and declared with its maps
+pub record Builds (k : Category) (so : Declarations) (stmt : Stmt) (answer : Answer) (after : Declarations) : Type 0 where
+  pub functor : Presheaf
+  pub maps : List FunctorMap
+  pub property : property k so stmt functor maps
+  pub shown : answer ≡ Built (shape_of k functor) (map (λ m. map_shape (declared_map m)) maps)
+  pub declared : after ≡ with_functor so functor maps
+
+-- what a statement answers, and what is declared behind it
+abbrev pub AnswersOver : Category → Declarations → Stmt → Answer → Declarations → Type 0
+AnswersOver k so (statement.Presheaf functor raw) answer after = (answer ≡ Quiet) × (after ≡ with_presheaf so (filled_presheaf k raw))
+AnswersOver k so (statement.Map m x y raw) answer after =
+    (answer ≡ Quiet) × (after ≡ with_map so (between x y (listed_map k (functor_at so.functors x) raw)))
+AnswersOver k so (statement.Hom x y) answer after =
+    let listed = maps k (functor_at so.functors x) (functor_at so.functors y) in
+    (answer ≡ Maps (map (λ m. map_shape (functor_map x y m)) listed)) × (after ≡ with_cells so (hom_cells (length listed) (functor_at so.functors x)))
+AnswersOver k so (statement.Show under ctx φ) answer after =
+    (answer ≡ Shown ctx (map (λ c. map tuple_of (shown (presheaf_world k so.functors) (reverse ctx.types) φ c)) (objects_of k))) × (after ≡ so)
+AnswersOver k so stmt answer after = Builds k so stmt answer after
 
 -- why a statement is refused
-abbrev pub refusal_over : Category → Stmt → Option Fault
-refusal_over k (statement.Presheaf functor raw) = fault_of_presheaf k raw
-refusal_over k (statement.Show under ctx φ) = some_if (not (is_built (statement.Show under ctx φ))) refused.NotBuilt
-refusal_over k _ = Some refused.NotBuilt
+abbrev pub refusal_over : Category → Declarations → Stmt → Option Fault
+refusal_over k so (statement.Presheaf functor raw) = fault_of_presheaf k raw
+refusal_over k so (statement.Map m x y raw) = fault_of_map k (functor_at so.functors x) (functor_at so.functors y) raw
+refusal_over k so (statement.Hom x y) = None
+refusal_over k so (statement.Show under ctx φ) = some_if (not (is_built (statement.Show under ctx φ))) refused.NotBuilt
+refusal_over k so stmt = elim (is_construction stmt) [ true ↦ some_if (not (fit k so stmt)) refused.NotParallel | false ↦ Some refused.NotBuilt ]
 
--- a statement is answered, with functors before it and behind it
-pub record IsAnsweredOver (k : Category) (before : List Presheaf) (stmt : Stmt) (answer : Answer) (after : List Presheaf) : Type 0 where
-  pub accepted : refusal_over k stmt ≡ None
-  pub answers : AnswersOver k before stmt answer after
-  pub lawful : AreFunctors k after
-  pub declared : length after ≡ declared_after (length before) stmt
+-- a statement is answered within the budget, with this declared before it and behind it
+pub record IsAnsweredOver (k : Category) (budget : ℕ) (so : Declarations) (stmt : Stmt) (answer : Answer) (after : Declarations) : Type 0 where
+  pub accepted : refusal_over k so stmt ≡ None
+  pub answers : AnswersOver k so stmt answer after
+  pub within : made k so after ≤ budget
+  pub lawful : AreLawful k after
+  pub declared : declares stmt ≡ Some (length after.functors - length so.functors, length after.maps - length so.maps)
+  pub functors : length so.functors ≤ length after.functors
+  pub maps : length so.maps ≤ length after.maps
+  pub others : after.others ≤ so.others + budget
 
--- a statement is refused, or no memory was left
-abbrev pub IsRefusedOver : Category → Stmt → Stop → Type 0
-IsRefusedOver k stmt (stop.Refused fault) = refusal_over k stmt ≡ Some fault
-IsRefusedOver k stmt stop.NoMemory = ⊤
+-- a statement is accepted, and what it makes has more cells than the budget
+pub record IsOverBudget (k : Category) (budget : ℕ) (so : Declarations) (stmt : Stmt) : Type 0 where
+  pub accepted : refusal_over k so stmt ≡ None
+  pub answer : Answer
+  pub after : Declarations
+  pub answers : AnswersOver k so stmt answer after
+  pub over : budget < made k so after
+
+-- a statement is refused, or over the budget, or no memory was left
+abbrev pub IsStoppedOver : Category → ℕ → Declarations → Stmt → Stop → Type 0
+IsStoppedOver k budget so stmt (stop.Refused fault) = refusal_over k so stmt ≡ Some fault
+IsStoppedOver k budget so stmt stop.Budget = IsOverBudget k budget so stmt
+IsStoppedOver k budget so stmt stop.NoMemory = ⊤

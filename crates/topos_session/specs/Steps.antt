@@ -13,7 +13,7 @@ use Rattle.topos_session.specs.declared.stop.SiteStop.{SiteStop}
 use Rattle.topos_session.specs.declared.stop.SiteStop.TheVariants as site_stop
 use Rattle.topos_model.specs.statements.Declarations.{nothing}
 use Rattle.topos_model.specs.statements.Form.{has_range}
-use Rattle.topos_model.specs.statements.Run.{site_refusal, IsAnswered, IsRefused}
+use Rattle.topos_model.specs.statements.Run.{site_refusal, IsAnswered, IsRefused, IsOver}
 use Rattle.topos_model.specs.statements.Built.{today}
 use Rattle.topos_model.specs.statements.StagedRun.{StagedRunOf}
 use Rattle.topos_session.specs.Progress.{Progress}
@@ -27,26 +27,27 @@ category_stop doc (category_fault.NotAssociative h g f) = site_stop.Refused doc 
 category_stop doc category_fault.NoMemory = site_stop.NoMemory
 
 -- a run that begins: nothing refuses the document before its statements, and nothing is answered yet
-pub record IsOpened (doc : Doc) (p : Progress) : Type 0 where
+pub record IsOpened (doc : Doc) (budget : ℕ) (p : Progress) : Type 0 where
   pub range : has_range doc ≡ true
   pub accepted : site_refusal today doc ≡ None
-  pub begins : p ≡ record { doc = doc; declared = nothing; answered = 0; live = true }
+  pub begins : p ≡ record { doc = doc; budget = budget; declared = nothing; answered = 0; live = true }
 
 -- the run is no more than a refusal, and the document is handed back
 abbrev pub IsSiteStop : Doc → SiteStop → Type 0
 IsSiteStop doc (site_stop.Refused back fault) = (back ≡ doc) × ((budget : ℕ) → StagedRunOf doc budget [] (end.Refused None fault))
 IsSiteStop doc site_stop.NoMemory = ⊤
 
--- the next statement gave this answer, and the run goes on behind it; no budget is spent, since cells are not counted
+-- the next statement gave this answer, and the run goes on behind it
 pub record IsStep (p : Progress) (answer : Answer) (q : Progress) : Type 0 where
   pub stmt : Stmt
   pub next : slice_get p.doc.stmts p.answered ≡ Some stmt
-  pub answers : (budget : ℕ) → IsAnswered today p.doc budget p.declared stmt answer q.declared
-  pub moved : (q.doc ≡ p.doc) × (q.answered ≡ p.answered + 1) × (q.live ≡ true)
+  pub answers : IsAnswered today p.doc p.budget p.declared stmt answer q.declared
+  pub moved : (q.doc ≡ p.doc) × (q.budget ≡ p.budget) × (q.answered ≡ p.answered + 1) × (q.live ≡ true)
 
--- a statement is refused, or no memory was left
+-- a statement is refused, or over the budget, or no memory was left
 abbrev pub IsStatementStop : Progress → Stmt → Stop → Type 0
-IsStatementStop p stmt (stop.Refused fault) = (budget : ℕ) → IsRefused today p.doc budget p.declared stmt fault
+IsStatementStop p stmt (stop.Refused fault) = IsRefused today p.doc p.budget p.declared stmt fault
+IsStatementStop p stmt stop.Budget = IsOver today p.doc p.budget p.declared stmt
 IsStatementStop p stmt stop.NoMemory = ⊤
 
 -- the next statement gave no answer

@@ -2,12 +2,16 @@
 #![tactic(auto)]
 
 mod answer;
+mod constructions;
+mod declarations;
 mod forcing;
 mod form;
+mod homs;
 mod listing;
 mod range;
 mod run;
 mod session;
+mod shapes;
 mod show;
 mod stop;
 mod variable;

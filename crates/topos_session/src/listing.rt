@@ -1,10 +1,11 @@
-// Whether the numbers of a listed presheaf are in range.
+// Whether the numbers of a listed presheaf and of a listed map are in range.
 ghost use Rattle.std.specs.Prelude.{◌≡◌, ◌&&◌, true, length, map, get_or, eqb, leb, ltb, IfOk};
 ghost use Rattle.std.specs.List.{list_all};
-ghost use Rattle.topos_model.specs.statements.Form.{are_distinct, along_fits, is_presheaf_listing, max_elements};
+ghost use Rattle.topos_model.specs.statements.Form.{are_distinct, along_fits, is_presheaf_listing, is_map_listing, max_elements};
 
+use indexmap::IndexSet;
 use std::alloc::{AllocError, Global};
-use topos_model::{Bits, NoMemory, RawAlong, RawFunctor};
+use topos_model::{Bits, NoMemory, RawAlong, RawEntry, RawFunctor};
 
 /// How many elements a declared presheaf may have at an object.
 const MAX_ELEMENTS: u32 = 256;
@@ -146,4 +147,27 @@ pub(crate) fn is_presheaf_listing(
         return Ok(false);
     }
     are_listed_once(alloc, along, ends.len())
+}
+
+/// Whether the entries of a listed map stand at objects, for each element at most one. The numbers of elements may be any. Want of memory is the only error.
+pub(crate) fn is_map_listing(
+    alloc: Global,
+    objects: u32,
+    entries: &[RawEntry],
+) -> Result<bool, NoMemory>
+    ensures { IfOk result (λ b. b ≡ is_map_listing objects entries.now) }
+{
+    let mut seen = IndexSet::new(alloc);
+    for i in (0..entries.len()).rev() {
+        let entry = entries[i];
+        if entry.at >= objects {
+            return Ok(false);
+        }
+        match seen.insert((entry.at, entry.from)) {
+            Ok(true) => {}
+            Ok(false) => return Ok(false),
+            Err(_) => return Err(NoMemory),
+        }
+    }
+    Ok(true)
 }

@@ -1,9 +1,9 @@
 // Whether the numbers of a document are in range.
-ghost use Rattle.std.specs.Prelude.{◌≡◌, ◌<◌, ◌+◌, length, leb, IfOk};
+ghost use Rattle.std.specs.Prelude.{◌≡◌, ◌≤◌, ◌+◌, ◌&&◌, length, eqb, leb, ltb, IfOk};
 ghost use Rattle.std.specs.List.{list_all};
-ghost use Rattle.topos_model.specs.statements.Form.{is_known, is_in_range, declared_after, are_in_range, has_range, max_statements};
+ghost use Rattle.topos_model.specs.statements.Form.{is_known, is_in_range, declares, are_in_range, has_range, max_statements};
 
-use crate::listing::is_presheaf_listing;
+use crate::listing::{is_map_listing, is_presheaf_listing};
 use fin_category::{all_ends, is_listing};
 use std::alloc::Global;
 use topos_model::{Doc, NoMemory, Stmt, Ty};
@@ -44,69 +44,113 @@ fn are_known(functors: usize, types: &[Ty]) -> bool
     true
 }
 
-// Whether the numbers of a statement are in range, where so many functors are declared before it.
+// How many functors and maps a statement declares, where it is of a kind that is run.
+#[tactic(auto, using(crate::proofs::StatementForms::declared_rules))]
+fn declares(stmt: &Stmt) -> Option<(u32, u32)>
+    ensures { result ≡ declares stmt.now }
+{
+    match stmt {
+        Stmt::Presheaf { .. } => Some((1, 0)),
+        Stmt::Map { .. } => Some((0, 1)),
+        Stmt::Product { .. } => Some((1, 2)),
+        Stmt::Coproduct { .. } => Some((1, 2)),
+        Stmt::Equalizer { .. } => Some((1, 1)),
+        Stmt::Coequalizer { .. } => Some((1, 1)),
+        Stmt::Pullback { .. } => Some((1, 2)),
+        Stmt::Pushout { .. } => Some((1, 2)),
+        Stmt::Image { .. } => Some((1, 2)),
+        Stmt::Empty { .. } => Some((1, 0)),
+        Stmt::Hom { .. } => Some((0, 0)),
+        Stmt::Show { .. } => Some((0, 0)),
+        _ => None,
+    }
+}
+
+// How many functors and maps are declared before a statement.
+#[derive(Clone, Copy, Debug, PartialEq, Eq)]
+struct Counts {
+    functors: u32,
+    maps: u32,
+}
+
+// Whether two functors are declared, and a third is declared behind them.
+fn are_functors(counts: Counts, x: u32, y: u32, functor: u32) -> bool
+    ensures { result ≡ (eqb functor counts.functors && ltb x counts.functors && ltb y counts.functors) }
+{
+    functor == counts.functors && x < counts.functors && y < counts.functors
+}
+
+// Whether two maps are declared, and a functor is declared behind all others.
+fn are_maps(counts: Counts, m: u32, n: u32, functor: u32) -> bool
+    ensures { result ≡ (eqb functor counts.functors && ltb m counts.maps && ltb n counts.maps) }
+{
+    functor == counts.functors && m < counts.maps && n < counts.maps
+}
+
+// Whether the numbers of a statement are in range.
 #[tactic(auto, using(crate::proofs::StatementForms::range_rules))]
 fn is_in_range(
     alloc: Global,
     objects: u32,
     ends: &[(u32, u32)],
-    declared: usize,
+    counts: Counts,
     stmt: &Stmt,
 ) -> Result<bool, NoMemory>
-    ensures { IfOk result (λ answer. answer ≡ is_in_range objects ends.now declared stmt.now) }
+    ensures { IfOk result (λ answer. answer ≡ is_in_range objects ends.now counts.functors counts.maps stmt.now) }
 {
     match stmt {
         Stmt::Presheaf { functor, raw } => {
-            if *functor as usize != declared {
+            if *functor != counts.functors {
                 return Ok(false);
             }
             is_presheaf_listing(alloc, objects, ends, raw)
         }
-        Stmt::Show { ctx, .. } => Ok(are_known(declared, ctx.types.as_slice())),
+        Stmt::Map { dom, cod, raw, .. } => {
+            if *dom >= counts.functors || *cod >= counts.functors {
+                return Ok(false);
+            }
+            is_map_listing(alloc, objects, raw.entries.as_slice())
+        }
+        Stmt::Product { x, y, functor, .. } => Ok(are_functors(counts, *x, *y, *functor)),
+        Stmt::Coproduct { x, y, functor, .. } => Ok(are_functors(counts, *x, *y, *functor)),
+        Stmt::Equalizer { m, n, functor, .. } => Ok(are_maps(counts, *m, *n, *functor)),
+        Stmt::Coequalizer { m, n, functor, .. } => Ok(are_maps(counts, *m, *n, *functor)),
+        Stmt::Pullback { m, n, functor, .. } => Ok(are_maps(counts, *m, *n, *functor)),
+        Stmt::Pushout { m, n, functor, .. } => Ok(are_maps(counts, *m, *n, *functor)),
+        Stmt::Image { m, functor, .. } => Ok(*functor == counts.functors && *m < counts.maps),
+        Stmt::Hom { x, y } => Ok(*x < counts.functors && *y < counts.functors),
+        Stmt::Show { ctx, .. } => Ok(are_known(counts.functors as usize, ctx.types.as_slice())),
         _ => Ok(true),
     }
 }
 
-// How many functors are declared after a statement.
-#[tactic(auto, using(crate::proofs::StatementForms::declared_rules))]
-fn declared_after(declared: usize, stmt: &Stmt) -> usize
-    requires { declared < usize.MAX }
-    ensures { result ≡ declared_after declared stmt.now }
-{
-    match stmt {
-        Stmt::Presheaf { .. }
-        | Stmt::Product { .. }
-        | Stmt::Coproduct { .. }
-        | Stmt::Equalizer { .. }
-        | Stmt::Coequalizer { .. }
-        | Stmt::Pullback { .. }
-        | Stmt::Pushout { .. }
-        | Stmt::Image { .. }
-        | Stmt::Empty { .. }
-        | Stmt::Sheafify { .. }
-        | Stmt::Build { .. }
-        | Stmt::Sub { .. }
-        | Stmt::Lan { .. }
-        | Stmt::Ran { .. } => declared + 1,
-        _ => declared,
-    }
-}
-
-// Whether the numbers of all statements are in range.
+// Whether the numbers of all statements are in range, up to the first of a kind that is not run.
 fn are_in_range(
     alloc: Global,
     objects: u32,
     ends: &[(u32, u32)],
     stmts: &[Stmt],
 ) -> Result<bool, NoMemory>
-    ensures { IfOk result (λ answer. answer ≡ are_in_range objects ends.now 0 stmts.now) }
+    requires { length stmts.now ≤ max_statements }
+    ensures { IfOk result (λ answer. answer ≡ are_in_range objects ends.now 0 0 stmts.now) }
 {
-    let mut declared = 0;
+    let mut counts = Counts {
+        functors: 0,
+        maps: 0,
+    };
     for stmt in stmts {
-        if !is_in_range(alloc, objects, ends, declared, stmt)? {
-            return Ok(false);
+        match declares(stmt) {
+            None => return Ok(true),
+            Some((functors, maps)) => {
+                if !is_in_range(alloc, objects, ends, counts, stmt)? {
+                    return Ok(false);
+                }
+                counts = Counts {
+                    functors: counts.functors + functors,
+                    maps: counts.maps + maps,
+                };
+            }
         }
-        declared = declared_after(declared, stmt);
     }
     Ok(true)
 }

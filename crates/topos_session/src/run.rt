@@ -1,5 +1,6 @@
 // The run of a whole document.
-ghost use Rattle.std.specs.Prelude.{◌≡◌, ℕ, IfOk};
+ghost use Rattle.std.specs.Prelude.{◌≡◌, ◌≤◌, IfOk};
+ghost use Rattle.natural_maps.specs.Room.{max_room};
 ghost use Rattle.topos_model.specs.statements.StagedRun.{StagedRunOf};
 
 use crate::{Session, SiteStop, Stop};
@@ -15,13 +16,14 @@ pub struct Run {
 }
 
 /// Runs a document: its site is checked, and its statements are answered one by one. A refusal is an end of the run, and it bears the number of the
-/// refused statement, or none where the site is refused. No budget is spent, since cells are not counted. Want of memory is the only error.
-pub fn run_document(alloc: Global, doc: Doc) -> Result<Run, NoMemory>
-    ensures runs { IfOk result (λ run. (budget : ℕ) → StagedRunOf run.doc budget run.answers run.end) }
+/// refused statement, or none where the site is refused. A statement that makes more cells than the budget is an end of the run too. Want of memory is the only error.
+pub fn run_document(alloc: Global, doc: Doc, budget: u64) -> Result<Run, NoMemory>
+    requires budget { budget ≤ max_room }
+    ensures runs { IfOk result (λ run. StagedRunOf run.doc budget run.answers run.end) }
     ensures doc { IfOk result (λ run. run.doc ≡ doc) }
 {
     let mut answers = Row::new(alloc);
-    let mut session = match Session::new(alloc, doc) {
+    let mut session = match Session::new(alloc, doc, budget) {
         Ok(session) => session,
         Err(SiteStop::Refused(doc, fault)) => {
             let end = End::Refused { at: None, fault };
@@ -40,6 +42,13 @@ pub fn run_document(alloc: Global, doc: Doc) -> Result<Run, NoMemory>
                     fault,
                 };
                 return Ok(Run { doc, answers, end });
+            }
+            Err(Stop::Budget) => {
+                return Ok(Run {
+                    doc: session.into_doc(),
+                    answers,
+                    end: End::Budget { at: number },
+                });
             }
             Err(Stop::NoMemory) => return Err(NoMemory),
         }

@@ -1,13 +1,14 @@
 // A document that is run statement by statement.
-ghost use Rattle.std.specs.Prelude.{◌≡◌, ◌<◌, ◌+◌, true, false, leb, length, IfOk, IfErr, OnErr};
+ghost use Rattle.std.specs.Prelude.{◌≡◌, ◌≤◌, ◌<◌, ◌+◌, true, false, leb, length, IfOk, IfErr, OnErr};
+ghost use Rattle.natural_maps.specs.Room.{max_room};
 ghost use Rattle.topos_session.specs.Steps.{category_stop};
 
 use crate::answer::answer;
+use crate::declarations::Declarations;
 use crate::form::is_trivial;
 use crate::range::has_range;
 use crate::{SiteStop, Stop};
 use fin_category::{Cat, CatFault};
-use presheaf_core::Functor;
 use std::alloc::Global;
 use std::marker::Model;
 use topos_model::{Answer, Doc, Fault, Row};
@@ -37,7 +38,8 @@ pub struct Session {
     alloc: Global,
     doc: Doc,
     cat: Cat,
-    functors: Row<Functor>,
+    so: Declarations,
+    budget: u64,
     answered: usize,
     live: bool,
 }
@@ -54,18 +56,19 @@ impl Model for Session {
 
     ghost coded = { Prim.hlevel (codes, ty.the_row.coded, term.the_row.coded, value.the_row.coded) };
 
-    ghost view = { λ s. record { doc = s.doc; declared = declared_by s.doc s.functors s.answered; answered = s.answered; live = s.live } };
+    ghost view = { λ s. record { doc = s.doc; budget = s.budget; declared = declared_by s.doc s.so s.answered; answered = s.answered; live = s.live } };
 
-    ghost invariant = { λ s. IsUnderWay s.doc s.cat s.functors s.answered };
+    ghost invariant = { λ s. IsUnderWay s.doc s.cat s.so s.budget s.answered };
 }
 
 impl Session {
     ghost use Rattle.topos_session.specs.Steps.{IsOpened, IsSiteStop, IsStep, IsStop};
 
-    /// Begins a document: nothing is answered yet. A document whose numbers are out of range is refused as not built; then the category's first fault refuses it,
+    /// Begins a document with a budget in cells, of which each statement has the whole: nothing is answered yet. A document whose numbers are out of range is refused as not built; then the category's first fault refuses it,
     /// and then it is refused as not built where other sieves cover than the maximal ones. A refused document is handed back; where no memory is left it is given up.
-    pub fn new(alloc: Global, doc: Doc) -> Result<Session, SiteStop>
-        ensures opened { IfOk result (λ session. IsOpened doc session) }
+    pub fn new(alloc: Global, doc: Doc, budget: u64) -> Result<Session, SiteStop>
+        requires budget { budget ≤ max_room }
+        ensures opened { IfOk result (λ session. IsOpened doc budget session) }
         ensures stop { IfErr result (λ stop. IsSiteStop doc stop) }
     {
         if !has_range(alloc, &doc)? {
@@ -82,7 +85,12 @@ impl Session {
             alloc,
             doc,
             cat,
-            functors: Row::new(alloc),
+            so: Declarations {
+                functors: Row::new(alloc),
+                maps: Row::new(alloc),
+                others: 0,
+            },
+            budget,
             answered: 0,
             live: true,
         })
@@ -123,7 +131,7 @@ impl Session {
         self.doc
     }
 
-    /// Answers the next statement. Where it is refused, or no memory is left for it, the session is as before and no longer live.
+    /// Answers the next statement. Where it is refused, or what it makes has more cells than the budget, or no memory is left for it, the session is as before and no longer live.
     pub fn step(&mut self) -> Result<Answer, Stop>
         requires live { self.old.live ≡ true }
         requires left { self.old.answered < length self.old.doc.stmts }
@@ -132,7 +140,7 @@ impl Session {
         ensures ended { OnErr result (self.new ≡ record self.old { live = false }) }
     {
         let stmt = self.doc.stmts.get(self.answered);
-        match answer(self.alloc, &self.cat, &mut self.functors, stmt) {
+        match answer(self.alloc, &self.cat, &mut self.so, stmt, self.budget) {
             Ok(answer) => {
                 self.answered += 1;
                 Ok(answer)

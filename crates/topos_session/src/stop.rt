@@ -1,4 +1,5 @@
 // Why a site or a statement gives no answer.
+use natural_maps::MapFault;
 use presheaf_core::FunctorFault;
 use topos_model::{Doc, Fault, NoMemory};
 
@@ -15,6 +16,8 @@ pub enum SiteStop {
 #[derive(Drop)]
 pub enum Stop {
     Refused(Fault),
+    /// What the statement makes has more cells than the budget.
+    Budget,
     NoMemory,
 }
 
@@ -56,6 +59,22 @@ impl From<FunctorFault> for Stop {
                 Stop::Refused(Fault::NotFunctorial { g, f, x })
             }
             FunctorFault::NoMemory => Stop::NoMemory,
+        }
+    }
+}
+
+impl From<MapFault> for Stop {
+    ghost use Rattle.std.specs.Prelude.{◌≡◌};
+    ghost use Rattle.topos_session.specs.Statements.{map_stop};
+
+    ghost from_gives = { λ fault stop. stop ≡ map_stop fault };
+
+    fn from(fault: MapFault) -> Stop {
+        match fault {
+            MapFault::NoElement { at, k } => Stop::Refused(Fault::NoElement { at, k }),
+            MapFault::MapNotTotal { at, x } => Stop::Refused(Fault::MapNotTotal { at, x }),
+            MapFault::NotNatural { f, x } => Stop::Refused(Fault::NotNatural { f, x }),
+            MapFault::NoMemory => Stop::NoMemory,
         }
     }
 }

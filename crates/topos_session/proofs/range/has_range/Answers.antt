@@ -14,7 +14,7 @@ returns-then-not-are_few c =
 pub returns : goal.returns
 returns c =
     let doc = c.args.doc.now in
-    let decide : are_in_range doc.cat.objects c.as_slice.result.now 0 c.as_slice-2.result.now ≡ has_range doc =
+    let decide : are_in_range doc.cat.objects c.as_slice.result.now 0 0 c.as_slice-2.result.now ≡ has_range doc =
     rw (c.as_slice.ensures, c.in_ok-ends.ensures, c.as_slice-2.ensures) (statements_decide doc
     (rw c.len.ensures at (sym c.are_few.ensures ∙ c.if-not-are_few.false))
     (sym c.is_listing.ensures.value ∙ c.if-not-is_listing.false)) in

@@ -25,7 +25,7 @@ returns-then-not-is_trivial-clause-stop c =
 pub invariant_of-result : goal.invariant_of-result
 invariant_of-result c =
     let trivial = rw c.as_slice.ensures at (sym c.is_trivial.ensures ∙ c.if-not-is_trivial.false) in
-    rw c.new.ensures (begins c.args.doc c.in-Ok.cat (sym c.in_ok-has_range.ensures ∙ c.if-not-branch.false) c.in-Ok.ensures.faultless trivial c.in-Ok.ensures.category)
+    rw (c.new.ensures, c.new-2.ensures) (begins c.args.doc c.in-Ok.cat c.args.budget (sym c.in_ok-has_range.ensures ∙ c.if-not-branch.false) c.in-Ok.ensures.faultless trivial c.in-Ok.ensures.category c.requires.budget)
 
 pub returns-clause-opened : goal.returns-clause-opened
 returns-clause-opened c =
@@ -34,5 +34,5 @@ returns-clause-opened c =
     record {
       range = range;
       accepted = accepted_site c.args.doc range c.in-Ok.ensures.faultless trivial;
-      begins = rw c.new.ensures refl;
+      begins = rw (c.new.ensures, c.new-2.ensures) refl;
     }

@@ -1,0 +1,121 @@
+-- What is in range of the numbers of a statement.
+use Rattle.std.proofs.Common.{◌≡◌, ℕ, ◌<◌, ◌≤◌, Bool, true, not, ◌&&◌, eqb, List, [], ◌∷◌, map, reverse, length, get_or, refl, sym, ap, ◌∙◌, subst, inl, inr}
+use Rattle.std.specs.List.{list_all}
+use Rattle.std.proofs.lemmas.Bool.{and_parts, eqb-true, eq-eqb, leb-true, ltb-true, true≢false}
+use denote.Hole.Carrier
+use Rattle.finite_lists.specs.Members.{In, Distinct}
+use Rattle.finite_lists.proofs.Lists.{all_each, each_all, some_any, In-map_from}
+use Rattle.topos_model.specs.declared.raw.RawAlong.{RawAlong}
+use Rattle.topos_model.specs.declared.raw.RawFunctor.{RawFunctor}
+use Rattle.topos_model.specs.declared.raw.RawEntry.{RawEntry}
+use Rattle.topos_model.specs.declared.raw.RawMap.{RawMap}
+use Rattle.topos_model.specs.declared.ty.Ty.{Ty, Base}
+use Rattle.topos_model.specs.declared.ty.Ty.TheBlock.{hidden-the_row-Ty-0}
+use Rattle.topos_model.specs.declared.context.Ctx.{Ctx}
+use Rattle.topos_model.specs.declared.term.Term.{Term}
+use Rattle.topos_model.specs.declared.stmt.Stmt.{Stmt}
+use Rattle.topos_model.specs.declared.stmt.Stmt.TheVariants.{Presheaf, Map, Hom, Show}
+use Rattle.topos_model.specs.categories.Category.{Category, dom, cod}
+use Rattle.topos_model.specs.presheaves.PresheafFaults.{IsPresheafListing}
+use Rattle.topos_model.specs.presheaves.MapFaults.{has_image, IsMapListing}
+use Rattle.topos_model.specs.statements.Needs.{named}
+use Rattle.topos_model.specs.statements.Cells.{is_named}
+use Rattle.topos_model.specs.statements.Form.{is_functor_name, is_propositional, along_fits, is_presheaf_listing, is_map_listing, is_known, is_in_range}
+use Rattle.topos_session.proofs.DistinctNumbers.{distinct_numbers}
+use Rattle.topos_session.proofs.StatementForms.{range-Presheaf, range-Map, range-Hom, range-Show}
+
+-- a listed presheaf has sizes for all objects, and restrictions of elements to elements
+along_in_range : (k : Category) (raw : RawFunctor) (a : RawAlong) → along_fits k.objects k.ends raw.sizes a ≡ true →
+    (k.objects ≤ a.arrow) × (a.arrow < length k.ends)
+    × ((e : ℕ × ℕ) → In a.entries e → (e.0 < get_or raw.sizes (cod k a.arrow) 0) × (e.1 < get_or raw.sizes (dom k a.arrow) 0))
+    × Distinct (map (λ e. e.0) a.entries)
+along_in_range k raw a fits =
+    let (most, once) = and_parts _ _ fits in
+    let (range, entries) = and_parts _ _ most in
+    let (declared, low) = and_parts _ _ range in (
+      leb-true _ _ declared,
+      ltb-true _ _ low,
+      λ e i. let (x, y) = and_parts _ _ (all_each _ a.entries e entries i) in (ltb-true _ _ x, ltb-true _ _ y),
+      distinct_numbers (map (λ e. e.0) a.entries) once,
+    )
+
+pub presheaf_listing : (k : Category) (raw : RawFunctor) → is_presheaf_listing k.objects k.ends raw ≡ true → IsPresheafListing k raw
+unfolding is_presheaf_listing
+presheaf_listing k raw range =
+    let (most, once) = and_parts _ _ range in
+    let (sized, fitting) = and_parts _ _ most in
+    record {
+      sizes = eqb-true _ _ (and_parts _ _ sized).0;
+      arrows = λ a i. let fits = along_in_range k raw a (all_each _ raw.along a fitting i) in (fits.0, fits.1);
+      arrows_once = distinct_numbers (map (λ a. a.arrow) raw.along) once;
+      entries = λ a i. (along_in_range k raw a (all_each _ raw.along a fitting i)).2;
+      entries_once = λ a i. (along_in_range k raw a (all_each _ raw.along a fitting i)).3;
+    }
+
+pub listing_of : (k : Category) (n l : ℕ) (stmt : Stmt) (functor : ℕ) (raw : RawFunctor) → stmt ≡ Presheaf functor raw → is_in_range k.objects k.ends n l stmt ≡ true → IsPresheafListing k raw
+listing_of k n l stmt functor raw is range =
+    presheaf_listing k raw (and_parts _ _ (sym (range-Presheaf k.objects k.ends n l functor raw) ∙ ap (is_in_range k.objects k.ends n l) (sym is) ∙ range)).1
+
+-- a listed map has entries at objects, for each element at most one
+entries_distinct : (objects : ℕ) (entries : List RawEntry) → is_map_listing objects entries ≡ true → Distinct {A = ℕ × ℕ} (map (λ e. (e.at, e.from)) entries)
+unfolding is_map_listing has_image
+entries_distinct objects [] listing = tt
+entries_distinct objects (e ∷ rest) listing =
+    let (head, later) = and_parts _ _ listing in (
+      λ i. let (other, at, same) = In-map_from {A = RawEntry} {B = ℕ × ℕ} (λ e. (e.at, e.from)) rest (e.at, e.from) i in
+          true≢false (sym (and_parts _ _ head).1 ∙ ap not (found rest other at (ap (λ (p : ℕ × ℕ). p.0) same) (ap (λ (p : ℕ × ℕ). p.1) same))),
+      entries_distinct objects rest later,
+    )
+  where
+    found : (rest : List RawEntry) (other : RawEntry) → In rest other → other.at ≡ e.at → other.from ≡ e.from → has_image rest e.at e.from ≡ true
+    found rest other at same_at same_from =
+        some_any (λ (d : RawEntry). eqb d.at e.at && eqb d.from e.from) rest other at (rw (eq-eqb other.at e.at same_at, eq-eqb other.from e.from same_from) refl)
+
+entries_within : (objects : ℕ) (entries : List RawEntry) → is_map_listing objects entries ≡ true → (e : RawEntry) → In entries e → e.at < objects
+unfolding is_map_listing
+entries_within objects [] listing e i = absurd i
+entries_within objects (x ∷ rest) listing e (inl here) =
+    let (head, later) = and_parts _ _ listing in subst (λ (d : RawEntry). d.at < objects) here (ltb-true _ _ (and_parts _ _ head).0)
+entries_within objects (x ∷ rest) listing e (inr i) = entries_within objects rest (and_parts _ _ listing).1 e i
+
+-- what is in range where a map is listed
+pub record HasMapRange (k : Category) (n x y : ℕ) (raw : RawMap) : Type 0 where
+  pub domain : x < n
+  pub codomain : y < n
+  pub listing : IsMapListing k raw
+
+pub map_range : (k : Category) (n l : ℕ) (stmt : Stmt) (m x y : ℕ) (raw : RawMap) → stmt ≡ Map m x y raw → is_in_range k.objects k.ends n l stmt ≡ true → HasMapRange k n x y raw
+map_range k n l stmt m x y raw is range =
+    let (ends, listing) = and_parts _ _ (sym (range-Map k.objects k.ends n l m x y raw) ∙ ap (is_in_range k.objects k.ends n l) (sym is) ∙ range) in
+    let (low, high) = and_parts _ _ ends in
+    record {
+      domain = ltb-true _ _ low;
+      codomain = ltb-true _ _ high;
+      listing = record { objects = entries_within k.objects raw.entries listing; once = entries_distinct k.objects raw.entries listing };
+    }
+
+pub hom_range : (k : Category) (n l : ℕ) (stmt : Stmt) (x y : ℕ) → stmt ≡ Hom x y → is_in_range k.objects k.ends n l stmt ≡ true → (x < n) × (y < n)
+hom_range k n l stmt x y is range =
+    let (low, high) = and_parts _ _ (sym (range-Hom k.objects k.ends n l x y) ∙ ap (is_in_range k.objects k.ends n l) (sym is) ∙ range) in
+    (ltb-true _ _ low, ltb-true _ _ high)
+
+-- types that name functors, in range, name functors that are declared
+names_declared : (n : ℕ) (T : Ty) → is_known n T ≡ true → is_named T ≡ true → is_functor_name n T ≡ true
+unfolding is_known is_named is_functor_name hidden-the_row-Ty-0 Carrier.hidden
+names_declared n (Base m) known named = known
+names_declared n _ known named = cc
+
+pub all_declared : (n : ℕ) (types : List Ty) → list_all (is_known n) types ≡ true → list_all is_named types ≡ true → list_all (is_functor_name n) types ≡ true
+all_declared n types known named =
+    each_all (is_functor_name n) types (λ T i. names_declared n T (all_each (is_known n) types T known i) (all_each is_named types T named i))
+
+pub known_types : (objects : ℕ) (ends : List (ℕ × ℕ)) (n l : ℕ) (stmt : Stmt) (under : ℕ) (ctx : Ctx) (φ : Term) → stmt ≡ Show under ctx φ → is_in_range objects ends n l stmt ≡ true →
+    list_all (is_known n) ctx.types ≡ true
+known_types objects ends n l stmt under ctx φ is range = sym (range-Show objects ends n l under ctx φ) ∙ ap (is_in_range objects ends n l) (sym is) ∙ range
+
+-- whether a formula is shown
+abbrev pub shown_form : ℕ → Ctx → Term → Bool
+shown_form under ctx φ = eqb under 0 && list_all is_named ctx.types && is_propositional (map named (reverse ctx.types)) φ
+
+pub shown_parts : (under : ℕ) (ctx : Ctx) (φ : Term) → shown_form under ctx φ ≡ true → (list_all is_named ctx.types ≡ true) × (is_propositional (map named (reverse ctx.types)) φ ≡ true)
+shown_parts under ctx φ form = let (head, formula) = and_parts _ _ form in ((and_parts _ _ head).1, formula)

@@ -1,0 +1,6 @@
+use Rattle.std.proofs.Common.{◌≡◌, map, take}
+use Rattle.topos_model.specs.statements.Answers.{map_shape, functor_map}
+use Rattle.topos_session.proofs.homs.shapes.Given as goal
+
+abbrev pub invariant-loop-map : goal.invariant-loop-map
+invariant-loop-map l = l.shapes ≡ map (λ m. map_shape (functor_map l.ends.0 l.ends.1 m)) (take l.map-index l.maps)

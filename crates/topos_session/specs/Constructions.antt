@@ -1,0 +1,132 @@
+-- The statements that make a functor by its universal property.
+use Rattle.std.specs.Prelude.{◌≡◌, ℕ, ◌<◌, ◌≤◌, Bool, true, false, ◌&&◌, eqb, List, [], ◌∷◌, ⊤}
+use Rattle.topos_model.specs.declared.stmt.Stmt.{Stmt}
+use Rattle.topos_model.specs.declared.stmt.Stmt.TheVariants.{Product, Coproduct, Equalizer, Coequalizer, Pullback, Pushout, Image, Empty}
+use Rattle.topos_model.specs.declared.fault.Fault.TheVariants as refused
+use Rattle.topos_model.specs.categories.Category.{Category}
+use Rattle.topos_model.specs.types.Types.{Presheaf}
+use Rattle.topos_model.specs.presheaves.Maps.{Components}
+use Rattle.topos_model.specs.presheaves.Limits.{IsProduct, IsEqualizer, IsPullback, IsImage}
+use Rattle.topos_model.specs.presheaves.Colimits.{IsInitial, IsCoproduct, IsCoequalizer, IsPushout}
+use Rattle.topos_model.specs.statements.Cells.{presheaf_cells}
+use Rattle.topos_session.specs.declared.stop.Stop.{Stop}
+use Rattle.topos_session.specs.declared.stop.Stop.TheVariants as stop
+use Rattle.topos_session.specs.declared.declarations.FunctorMap.{FunctorMap}
+use Rattle.topos_session.specs.declared.declarations.Declarations.{Declarations}
+use Rattle.topos_session.specs.declared.constructions.Construction.{Construction}
+use Rattle.topos_session.specs.Variables.{functor_at}
+use Rattle.topos_session.specs.Declarations.{map_at}
+
+-- whether a statement makes a functor by its universal property
+unfoldable pub is_construction : Stmt → Bool
+is_construction (Product x y z p q) = true
+is_construction (Coproduct x y z p q) = true
+is_construction (Equalizer m n z i) = true
+is_construction (Coequalizer m n z q) = true
+is_construction (Pullback m n z p q) = true
+is_construction (Pushout m n z i j) = true
+is_construction (Image m z e j) = true
+is_construction (Empty z) = true
+is_construction _ = false
+
+-- a map by its numbers and components
+abbrev pub between : ℕ → ℕ → Components → FunctorMap
+between x y m = record { dom = x; cod = y; map = m }
+
+-- what a functor and its maps are to have
+abbrev pub Property : Type 1
+Property = Presheaf → List FunctorMap → Type 0
+
+module _ (k : Category) (so : Declarations) where
+  abbrev X : ℕ → Presheaf
+  X n = functor_at so.functors n
+
+  abbrev pub from : ℕ → ℕ
+  from m = (map_at so.maps m).dom
+
+  abbrev pub to : ℕ → ℕ
+  to m = (map_at so.maps m).cod
+
+  abbrev table : ℕ → Components
+  table m = (map_at so.maps m).map
+
+  -- the functor number z, with its maps, is the product of x and y, and so on
+  abbrev pub AsProduct : ℕ → ℕ → ℕ → Property
+  AsProduct x y z Z maps = (l : Components) × (r : Components) × IsProduct k (X x) (X y) Z l r × (maps ≡ between z x l ∷ between z y r ∷ [])
+
+  abbrev pub AsCoproduct : ℕ → ℕ → ℕ → Property
+  AsCoproduct x y z Z maps = (l : Components) × (r : Components) × IsCoproduct k (X x) (X y) Z l r × (maps ≡ between x z l ∷ between y z r ∷ [])
+
+  abbrev pub AsEqualizer : ℕ → ℕ → ℕ → Property
+  AsEqualizer m n z Z maps =
+      (l : Components) × IsEqualizer k (X (from m)) (X (to m)) (table m) (table n) Z l × (maps ≡ between z (from m) l ∷ [])
+
+  abbrev pub AsCoequalizer : ℕ → ℕ → ℕ → Property
+  AsCoequalizer m n z Z maps =
+      (r : Components) × IsCoequalizer k (X (from m)) (X (to m)) (table m) (table n) Z r × (maps ≡ between (to m) z r ∷ [])
+
+  abbrev pub AsPullback : ℕ → ℕ → ℕ → Property
+  AsPullback m n z Z maps =
+      (l : Components) × (r : Components) × IsPullback k (X (from m)) (X (from n)) (X (to m)) (table m) (table n) Z l r
+      × (maps ≡ between z (from m) l ∷ between z (from n) r ∷ [])
+
+  abbrev pub AsPushout : ℕ → ℕ → ℕ → Property
+  AsPushout m n z Z maps =
+      (l : Components) × (r : Components) × IsPushout k (X (from m)) (X (to m)) (X (to n)) (table m) (table n) Z l r
+      × (maps ≡ between (to m) z l ∷ between (to n) z r ∷ [])
+
+  abbrev pub AsImage : ℕ → ℕ → Property
+  AsImage m z Z maps =
+      (l : Components) × (r : Components) × IsImage k (X (from m)) (X (to m)) (table m) Z l r
+      × (maps ≡ between (from m) z l ∷ between z (to m) r ∷ [])
+
+  abbrev pub AsInitial : Property
+  AsInitial Z maps = IsInitial k Z × (maps ≡ [])
+
+  -- the property that a statement names
+  abbrev pub property : Stmt → Property
+  property (Product x y z p q) = AsProduct x y z
+  property (Coproduct x y z p q) = AsCoproduct x y z
+  property (Equalizer m n z i) = AsEqualizer m n z
+  property (Coequalizer m n z q) = AsCoequalizer m n z
+  property (Pullback m n z p q) = AsPullback m n z
+  property (Pushout m n z i j) = AsPushout m n z
+  property (Image m z e j) = AsImage m z
+  property (Empty z) = AsInitial
+  property _ = λ Z maps. ⊥
+
+  -- whether the ends of maps fit
+  abbrev pub same_domain : ℕ → ℕ → Bool
+  same_domain m n = eqb (from m) (from n)
+
+  abbrev pub same_codomain : ℕ → ℕ → Bool
+  same_codomain m n = eqb (to m) (to n)
+
+  -- whether the ends of the statement's maps fit
+  abbrev pub fit : Stmt → Bool
+  fit (Equalizer m n z i) = same_domain m n && same_codomain m n
+  fit (Coequalizer m n z q) = same_domain m n && same_codomain m n
+  fit (Pullback m n z p q) = same_codomain m n
+  fit (Pushout m n z i j) = same_domain m n
+  fit _ = true
+
+module _ (k : Category) (budget : ℕ) (fits : Bool) (P : Property) where
+  -- this functor with these maps has the property, and is within the budget
+  pub record IsMade (made : Construction) : Type 0 where
+    pub parallel : fits ≡ true
+    pub property : P made.functor made.maps
+    pub within : presheaf_cells k made.functor ≤ budget
+
+  -- what has the property has more cells than the budget
+  pub record IsTooLarge : Type 0 where
+    pub parallel : fits ≡ true
+    pub functor : Presheaf
+    pub maps : List FunctorMap
+    pub property : P functor maps
+    pub over : budget < presheaf_cells k functor
+
+  -- nothing is made
+  abbrev pub IsUnmade : Stop → Type 0
+  IsUnmade (stop.Refused fault) = (fault ≡ refused.NotParallel) × (fits ≡ false)
+  IsUnmade stop.Budget = IsTooLarge
+  IsUnmade stop.NoMemory = ⊤
