@@ -4,5 +4,7 @@ pub mod ValueParts
 pub mod Spellings
 pub mod TypedValues
 pub mod ObjectLines
+pub mod Entries
+pub mod AnswerLists
 mod WorkedExamples
 mod WorkedReports

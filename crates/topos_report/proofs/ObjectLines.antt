@@ -13,7 +13,7 @@ use Rattle.std.proofs.lemmas.List.{append-nil}
 abbrev same : ℕ → ℕ
 same n = n
 
-flat_map-range-more : (f : ℕ → List ℕ) (n : ℕ) → flat_map f (range_with_len 0 (n + 1)) ≡ flat_map f (range_with_len 0 n) ++ f n
+pub flat_map-range-more : (f : ℕ → List ℕ) (n : ℕ) → flat_map f (range_with_len 0 (n + 1)) ≡ flat_map f (range_with_len 0 n) ++ f n
 flat_map-range-more f n =
     sym (flat_map-map f same (range_with_len 0 (n + 1)))
     ∙ ap (flat_map f) (map-range_with_len_more same 0 n n (omega arith))

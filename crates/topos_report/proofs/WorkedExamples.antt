@@ -11,20 +11,22 @@ use Rattle.topos_model.specs.declared.answer.Answer.TheVariants.{Quiet, Shown}
 use Rattle.topos_model.specs.declared.answer.End.TheVariants.{Whole, Refused}
 use Rattle.topos_model.specs.declared.answer.Tuple.{Tuple}
 use Rattle.topos_model.specs.declared.fault.Fault.TheVariants.{NotBuilt, CompositeEnds, NotAssociative, NotTotal, NotFunctorial}
-use Rattle.topos_model.specs.declared.stmt.Stmt.TheVariants.{Presheaf}
+use Rattle.topos_model.specs.declared.stmt.Stmt.{Stmt}
+use Rattle.topos_model.specs.declared.stmt.Stmt.TheVariants.{Presheaf, Empty}
 use Rattle.topos_model.specs.declared.doc.Doc.{Doc}
 use Rattle.topos_model.specs.categories.Listed.{all_ends}
 use Rattle.topos_model.specs.types.Values.{number_of, first_of, second_of, arrows_of, entries_of, assigns_of}
 use Rattle.topos_report.specs.Names.{name_or_number, arrow_name, element_name}
 use Rattle.topos_report.specs.Values.{ends_of, pair_text, sieve_text, entry_text, subset_text, assign_text, function_text, value_text, typed_text, tuple_text}
 use Rattle.topos_report.specs.Stages.{tuples_line, tuples_line_at, tuples_list}
-use Rattle.topos_report.specs.Refusals.{functor_of, number_prefix, declared_functor, element_of, element_along_text, refusal_line}
+use Rattle.topos_report.specs.Refusals.{functor_of, number_prefix, declared_functor, element_of, element_along_text, tested_of, tested_at, refusal_line}
 use Rattle.topos_report.specs.Report.{answer_lines, lines_from, end_line, report}
 use Rattle.topos_report.specs.EmptyDocument.{empty_document}
+use Rattle.topos_report.specs.AnswerLines.{heading}
 
 -- what the examples compute with
 opened : Unit {0}
-unfolding digits number_of first_of second_of arrows_of entries_of assigns_of out-Val hidden-the_row-Ty-0 hidden-the_row-Val-0 hidden-the_row-Entry-1 hidden-the_row-Assign-2 shown-the_row-Val-0 shown-the_row-Entry-1 shown-the_row-Assign-2 Carrier.hidden Carrier.shown Carrier.out all_ends name_or_number arrow_name element_name ends_of pair_text sieve_text entry_text subset_text assign_text function_text value_text typed_text tuple_text tuples_line tuples_line_at tuples_list functor_of number_prefix declared_functor element_of element_along_text refusal_line answer_lines lines_from end_line report empty_document
+unfolding digits number_of first_of second_of arrows_of entries_of assigns_of out-Val hidden-the_row-Ty-0 hidden-the_row-Val-0 hidden-the_row-Entry-1 hidden-the_row-Assign-2 shown-the_row-Val-0 shown-the_row-Entry-1 shown-the_row-Assign-2 Carrier.hidden Carrier.shown Carrier.out all_ends name_or_number arrow_name element_name ends_of pair_text sieve_text entry_text subset_text assign_text function_text value_text typed_text tuple_text tuples_line tuples_line_at tuples_list functor_of number_prefix declared_functor element_of element_along_text tested_of tested_at refusal_line heading answer_lines lines_from end_line report empty_document
 opened = tt
 
 tuple : List Val → Tuple
@@ -35,6 +37,10 @@ pair : ℕ → ℕ → Tuple
 unfolding tuple
 pair m n = tuple (El m ∷ El n ∷ [])
 
+-- a statement that no line of these examples depends on
+anything : Stmt
+anything = Empty 0
+
 -- graphs, with a loop l and two edges e and f from p to q
 graphs : Doc
 unfolding opened
@@ -44,6 +50,7 @@ graphs = record empty_document {
   cat = record { objects = 2; ends = (0, 1) ∷ (0, 1) ∷ []; listed = [] };
   site_len = 2;
   functors = record { name = codes "G"; elements = Some ((codes "p" ∷ codes "q" ∷ []) ∷ (codes "e" ∷ codes "f" ∷ codes "l" ∷ []) ∷ []) } ∷ [];
+  stmts = anything ∷ anything ∷ anything ∷ [];
 }
 
 of_pairs : List (List Tuple) → Answer

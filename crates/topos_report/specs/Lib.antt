@@ -1,9 +1,9 @@
 pub mod Lists
+pub mod Lead
 pub mod Names
 pub mod Values
 pub mod Stages
 pub mod Refusals
-pub mod Report
 pub mod EmptyDocument
 pub mod TypeTexts
 pub mod Statements
@@ -11,4 +11,5 @@ pub mod Tables
 pub mod CertificateLines
 pub mod FaultTexts
 pub mod AnswerLines
+pub mod Report
 pub mod WholeReport

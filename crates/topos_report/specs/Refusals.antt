@@ -2,18 +2,25 @@
 use Rattle.std.specs.Prelude.{ℕ, ◌-◌, List, [], ◌∷◌, ◌++◌, Option, Some, None, codes, decimal}
 use Rattle.std.specs.List.{slice_get}
 use Rattle.topos_model.specs.declared.stmt.Stmt.{Stmt}
-use Rattle.topos_model.specs.declared.stmt.Stmt.TheVariants.{Presheaf}
+use Rattle.topos_model.specs.declared.stmt.Stmt.TheVariants.{Presheaf, Map}
 use Rattle.topos_model.specs.declared.fault.Fault.{Fault}
-use Rattle.topos_model.specs.declared.fault.Fault.TheVariants.{NotBuilt, CompositeMissing, CompositeTwice, CompositeEnds, NotAssociative, RestrictionMissing, NotTotal, NotFunctorial}
+use Rattle.topos_model.specs.declared.fault.Fault.TheVariants.{NotBuilt, CompositeMissing, CompositeTwice, CompositeEnds, NotAssociative, RestrictionMissing, NotTotal, NotFunctorial, MapNotTotal, NotNatural, NoElement, NotParallel}
 use Rattle.topos_model.specs.declared.doc.Doc.{Doc}
 use Rattle.topos_report.specs.Lists.{comma_separated}
-use Rattle.topos_report.specs.Names.{arrow_name, element_name}
+use Rattle.topos_report.specs.Names.{arrow_name, element_name, object_name, place_text, map_name}
 use Rattle.topos_report.specs.Values.{ends_of}
+use Rattle.topos_report.specs.Statements.{tested_maps}
 
--- the functor that a statement declares with its elements
+-- the functor whose elements the faults of a statement speak of: the one that it declares, or the domain of its map
 unfoldable pub functor_of : Option Stmt → Option ℕ
 functor_of (Some (Presheaf functor raw)) = Some functor
+functor_of (Some (Map m x y raw)) = Some x
 functor_of _ = None
+
+-- the maps whose ends a statement tests
+unfoldable pub tested_of : Option Stmt → List ℕ
+tested_of (Some stmt) = tested_maps stmt
+tested_of None = []
 
 -- where the refusal is one of a statement, its number
 unfoldable pub number_prefix : Option ℕ → List ℕ
@@ -24,16 +31,21 @@ abbrev pub refused : Option ℕ → List ℕ → List ℕ
 refused at text = number_prefix at ++ codes "refused " ++ text ++ codes "\n"
 
 module _ (doc : Doc) where
-  -- the functor that statement number k declares
+  -- the functor whose elements the faults of statement number k speak of
   unfoldable pub declared_functor : Option ℕ → Option ℕ
   declared_functor None = None
   declared_functor (Some k) = functor_of (slice_get doc.stmts (k - doc.site_len - 1))
+
+  -- the maps whose ends statement number k tests
+  unfoldable pub tested_at : Option ℕ → List ℕ
+  tested_at None = []
+  tested_at (Some k) = tested_of (slice_get doc.stmts (k - doc.site_len - 1))
 
   unfoldable pub element_of : Option ℕ → ℕ → ℕ → List ℕ
   element_of None c x = []
   element_of (Some functor) c x = element_name doc functor c x
 
-  -- the element x, at the codomain of f, of the functor that the statement declares
+  -- the element x, at the codomain of f, of the functor that the statement's faults speak of
   unfoldable pub element_along_text : Option ℕ → ℕ → ℕ → List ℕ
   element_along_text at f x = element_of (declared_functor at) (ends_of doc f).1 x
 
@@ -47,4 +59,8 @@ module _ (doc : Doc) where
   refusal_line at (RestrictionMissing f) = refused at (codes "50 restriction missing: " ++ arrow_name doc f)
   refusal_line at (NotTotal f x) = refused at (codes "51 not total: " ++ arrow_name doc f ++ codes ", " ++ element_along_text at f x)
   refusal_line at (NotFunctorial g f x) = refused at (codes "52 not functorial: " ++ comma_separated (arrow_name doc) (g ∷ f ∷ []) ++ codes ", " ++ element_along_text at g x)
+  refusal_line at (MapNotTotal c x) = refused at (codes "53 map not total: " ++ object_name doc c ++ codes ", " ++ element_of (declared_functor at) c x)
+  refusal_line at (NotNatural f x) = refused at (codes "54 not natural: " ++ arrow_name doc f ++ codes ", " ++ element_along_text at f x)
+  refusal_line at (NoElement c n) = refused at (codes "55 no such element: " ++ object_name doc c ++ codes ", " ++ place_text n)
+  refusal_line at NotParallel = refused at (codes "70 ends: " ++ comma_separated (map_name doc) (tested_at at))
   refusal_line at _ = []

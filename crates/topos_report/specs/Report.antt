@@ -1,30 +1,36 @@
 -- The report of a run.
-use Rattle.std.specs.Prelude.{ℕ, ◌+◌, List, [], ◌∷◌, ◌++◌, codes, decimal}
+use Rattle.std.specs.Prelude.{ℕ, ◌+◌, List, [], ◌∷◌, ◌++◌, length, codes, decimal, flat_map}
+use Rattle.std.specs.List.{range_with_len}
 use Rattle.topos_model.specs.declared.answer.Answer.{Answer}
-use Rattle.topos_model.specs.declared.answer.Answer.TheVariants.{Quiet, Shown}
+use Rattle.topos_model.specs.declared.answer.Answer.TheVariants.{Quiet, Built, Shown, Maps}
 use Rattle.topos_model.specs.declared.answer.End.{End}
-use Rattle.topos_model.specs.declared.answer.End.TheVariants.{Refused}
+use Rattle.topos_model.specs.declared.answer.End.TheVariants.{Refused, Budget}
+use Rattle.topos_model.specs.declared.stmt.Stmt.{Stmt}
 use Rattle.topos_model.specs.declared.doc.Doc.{Doc}
 use Rattle.topos_report.specs.Stages.{tuples_list}
+use Rattle.topos_report.specs.AnswerLines.{heading, built_lines, listed_map_lines}
 use Rattle.topos_report.specs.Refusals.{refusal_line}
 
 module _ (doc : Doc) where
-  -- the lines of the answer to statement number k; those that no statement gives yet have none
-  unfoldable pub answer_lines : ℕ → Answer → List ℕ
-  answer_lines k Quiet = []
-  answer_lines k (Shown ctx stages) = decimal k ++ codes " show\n" ++ tuples_list doc ctx.types stages
-  answer_lines k _ = []
+  -- the lines of the answer to a statement, its number being k; those that no statement gives yet have none
+  unfoldable pub answer_lines : ℕ → Stmt → Answer → List ℕ
+  answer_lines k stmt Quiet = []
+  answer_lines k stmt (Built shape maps) = built_lines doc k stmt shape maps
+  answer_lines k stmt (Shown ctx stages) = decimal k ++ codes " show\n" ++ tuples_list doc ctx.types stages
+  answer_lines k stmt (Maps maps) = heading k (codes "hom " ++ decimal (length maps)) ++ flat_map (listed_map_lines doc maps) (range_with_len 0 (length maps))
+  answer_lines k stmt _ = []
 
-  -- of the answers to the statements from number k on
-  unfoldable pub lines_from : ℕ → List Answer → List ℕ
-  lines_from k [] = []
-  lines_from k (answer ∷ rest) = answer_lines k answer ++ lines_from (k + 1) rest
+  -- of the answers to these statements, the first having the number k
+  unfoldable pub lines_from : ℕ → List Stmt → List Answer → List ℕ
+  lines_from k (stmt ∷ later) (answer ∷ rest) = answer_lines k stmt answer ++ lines_from (k + 1) later rest
+  lines_from k _ _ = []
 
-  -- cells are not counted yet, and no run stops at a budget or only checks, so those ends have no line
+  -- cells are not counted yet, so the end of a whole run has no line
   unfoldable pub end_line : End → List ℕ
   end_line (Refused at fault) = refusal_line doc at fault
+  end_line (Budget k) = heading k (codes "budget")
   end_line _ = []
 
-  -- the answers are those to the statements after the site, in order
+  -- the answers are those to the first statements after the site
   unfoldable pub report : List Answer → End → List ℕ
-  report answers end = lines_from (doc.site_len + 1) answers ++ end_line end
+  report answers end = lines_from (doc.site_len + 1) doc.stmts answers ++ end_line end

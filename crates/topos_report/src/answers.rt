@@ -1,18 +1,30 @@
 // Lines of answers and of the run's end.
-ghost use Rattle.std.specs.Prelude.{◌≡◌, ◌+◌, ◌++◌, OnOk};
+ghost use Rattle.std.specs.Prelude.{◌≡◌, ◌≤◌, ◌+◌, ◌++◌, length, codes, OnOk};
+ghost use Rattle.topos_report.specs.AnswerLines.{heading};
 ghost use Rattle.topos_report.specs.Report.{answer_lines, lines_from, end_line};
 
 use crate::bytes::{push_bytes, push_number};
 use crate::refusals::push_refusal;
 use crate::stages::push_tuples_list;
-use topos_model::{Answer, Doc, End, NoMemory};
+use crate::tables::{push_built, push_hom};
+use topos_model::{Answer, Doc, End, NoMemory, Stmt};
 
-/// The lines of the answer to statement number k. Those that no statement gives yet have none.
+/// The lines of the answer to a statement, its number being k. Those that no statement gives yet have none.
 #[tactic(auto, unfolding(crate::specs::Report::answer_lines))]
-fn push_answer(out: &mut Vec<u8>, doc: &Doc, k: u64, answer: &Answer) -> Result<(), NoMemory>
-    ensures { OnOk result (out.new.items ≡ out.old.items ++ answer_lines doc.now k answer.now) }
+fn push_answer(
+    out: &mut Vec<u8>,
+    doc: &Doc,
+    k: u64,
+    stmt: &Stmt,
+    answer: &Answer,
+) -> Result<(), NoMemory>
+    ensures { OnOk result (out.new.items ≡ out.old.items ++ answer_lines doc.now k stmt.now answer.now) }
 {
     match answer {
+        Answer::Built { functor, maps } => {
+            push_built(out, doc, k, stmt, functor, maps.as_slice())
+        }
+        Answer::Maps(maps) => push_hom(out, doc, k, maps.as_slice()),
         Answer::Shown { ctx, stages } => {
             push_number(out, k)?;
             push_bytes(out, b" show\n")?;
@@ -22,17 +34,26 @@ fn push_answer(out: &mut Vec<u8>, doc: &Doc, k: u64, answer: &Answer) -> Result<
     }
 }
 
-/// The lines of the answers to the statements after the site.
+/// The lines of the answers to the first statements after the site.
 #[tactic(auto, unfolding(crate::specs::Report::lines_from))]
 pub fn push_answers(out: &mut Vec<u8>, doc: &Doc, answers: &[Answer]) -> Result<(), NoMemory>
-    ensures { OnOk result (out.new.items ≡ out.old.items ++ lines_from doc.now (doc.now.site_len + 1) answers.now) }
+    ensures { OnOk result (out.new.items ≡ out.old.items ++ lines_from doc.now (doc.now.site_len + 1) doc.now.stmts answers.now) }
 {
-    let mut k = u64::from(doc.site_len) + 1;
-    for answer in answers {
-        push_answer(out, doc, k, answer)?;
-        k += 1;
+    let stmts = doc.stmts.as_slice();
+    for i in 0..stmts.len().min(answers.len()) {
+        let k = u64::from(doc.site_len) + 1 + i as u64;
+        push_answer(out, doc, k, &stmts[i], &answers[i])?;
     }
     Ok(())
+}
+
+/// The line of a stop at the budget.
+#[tactic(auto, unfolding(crate::specs::AnswerLines::heading))]
+fn push_budget(out: &mut Vec<u8>, k: u64) -> Result<(), NoMemory>
+    ensures { OnOk result (out.new.items ≡ out.old.items ++ heading k (codes "budget")) }
+{
+    push_number(out, k)?;
+    push_bytes(out, b" budget\n")
 }
 
 /// The line of the run's end. Ends that no run has yet have none.
@@ -42,6 +63,7 @@ pub fn push_end(out: &mut Vec<u8>, doc: &Doc, end: &End) -> Result<(), NoMemory>
 {
     match end {
         End::Refused { at, fault } => push_refusal(out, doc, *at, fault),
+        End::Budget { at } => push_budget(out, u64::from(*at)),
         _ => Ok(()),
     }
 }

@@ -10,6 +10,8 @@ mod names;
 mod parts;
 mod refusals;
 mod stages;
+mod statements;
+mod tables;
 mod values;
 
 use crate::answers::{push_answers, push_end};

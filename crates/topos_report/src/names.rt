@@ -47,6 +47,16 @@ pub fn push_arrow(out: &mut Vec<u8>, doc: &Doc, f: u32) -> Result<(), NoMemory>
     }
 }
 
+/// The name of the declared arrow number i, counted without the identities.
+pub fn push_arrow_name(out: &mut Vec<u8>, doc: &Doc, i: usize) -> Result<(), NoMemory>
+    ensures { OnOk result (out.new.items ≡ out.old.items ++ get_or doc.now.arrows i []) }
+{
+    match doc.arrows.as_slice().get(i) {
+        Some(name) => push_bytes(out, name.as_slice()),
+        None => Ok(()),
+    }
+}
+
 #[tactic(auto, unfolding(crate::specs::Names::name_or_number))]
 fn push_name_or_number(
     out: &mut Vec<u8>,

@@ -1,9 +1,14 @@
 // Lines of refusals.
 ghost use Rattle.std.specs.Prelude.{◌≡◌, ◌++◌, codes, OnOk, option_copied};
-ghost use Rattle.topos_report.specs.Refusals.{functor_of, number_prefix, declared_functor, element_of, element_along_text, refusal_line};
+ghost use Rattle.std.specs.Prelude.{[]};
+ghost use Rattle.topos_report.specs.Lists.{comma_separated};
+ghost use Rattle.topos_report.specs.Names.{map_name};
+ghost use Rattle.topos_report.specs.Refusals.{functor_of, tested_of, tested_at, number_prefix, declared_functor, element_of, element_along_text, refusal_line};
 
 use crate::bytes::{push_bytes, push_number};
-use crate::names::{ends, push_arrow, push_element};
+use crate::names::{ends, push_arrow, push_element, push_object};
+use crate::statements::push_tested;
+use crate::tables::push_place;
 use crate::values::push_arrows;
 use topos_model::{Doc, Fault, NoMemory, Stmt};
 
@@ -26,11 +31,12 @@ fn statement_functor(stmt: Option<&Stmt>) -> Option<u32>
 {
     match stmt {
         Some(Stmt::Presheaf { functor, .. }) => Some(*functor),
+        Some(Stmt::Map { dom, .. }) => Some(*dom),
         _ => None,
     }
 }
 
-/// The functor that statement number k declares.
+/// The functor whose elements the faults of statement number k speak of.
 #[tactic(auto, unfolding(crate::specs::Refusals::declared_functor))]
 fn functor_at(doc: &Doc, at: Option<u32>) -> Option<u32>
     ensures { result ≡ declared_functor doc.now at }
@@ -200,6 +206,90 @@ fn push_not_functorial(
     push_bytes(out, b"\n")
 }
 
+#[tactic(auto, unfolding(crate::specs::Refusals::tested_of))]
+fn push_tested_of(out: &mut Vec<u8>, doc: &Doc, stmt: Option<&Stmt>) -> Result<(), NoMemory>
+    ensures { OnOk result (out.new.items ≡ out.old.items ++ comma_separated (map_name doc.now) (tested_of (option_copied stmt.entry))) }
+{
+    match stmt {
+        Some(stmt) => push_tested(out, doc, stmt),
+        None => Ok(()),
+    }
+}
+
+/// The names of the maps whose ends statement number k tests.
+#[tactic(auto, unfolding(crate::specs::Refusals::tested_at))]
+fn push_tested_at(out: &mut Vec<u8>, doc: &Doc, at: Option<u32>) -> Result<(), NoMemory>
+    ensures { OnOk result (out.new.items ≡ out.old.items ++ comma_separated (map_name doc.now) (tested_at doc.now at)) }
+{
+    match at {
+        Some(k) => {
+            let i = k.saturating_sub(doc.site_len).saturating_sub(1);
+            push_tested_of(out, doc, doc.stmts.as_slice().get(i as usize))
+        }
+        None => Ok(()),
+    }
+}
+
+#[tactic(auto, unfolding(crate::specs::Refusals::refusal_line))]
+fn push_map_not_total(
+    out: &mut Vec<u8>,
+    doc: &Doc,
+    at: Option<u32>,
+    c: u32,
+    x: u32,
+) -> Result<(), NoMemory>
+    ensures { OnOk result (out.new.items ≡ out.old.items ++ refusal_line doc.now at (Fault.MapNotTotal c x)) }
+{
+    push_refused(out, at, b"53 map not total: ")?;
+    push_object(out, doc, c)?;
+    push_bytes(out, b", ")?;
+    push_element_of(out, doc, functor_at(doc, at), c, x)?;
+    push_bytes(out, b"\n")
+}
+
+#[tactic(auto, unfolding(crate::specs::Refusals::refusal_line))]
+fn push_not_natural(
+    out: &mut Vec<u8>,
+    doc: &Doc,
+    at: Option<u32>,
+    f: u32,
+    x: u32,
+) -> Result<(), NoMemory>
+    ensures { OnOk result (out.new.items ≡ out.old.items ++ refusal_line doc.now at (Fault.NotNatural f x)) }
+{
+    push_refused(out, at, b"54 not natural: ")?;
+    push_arrow(out, doc, f)?;
+    push_bytes(out, b", ")?;
+    push_element_along(out, doc, at, f, x)?;
+    push_bytes(out, b"\n")
+}
+
+#[tactic(auto, unfolding(crate::specs::Refusals::refusal_line))]
+fn push_no_element(
+    out: &mut Vec<u8>,
+    doc: &Doc,
+    at: Option<u32>,
+    c: u32,
+    k: u32,
+) -> Result<(), NoMemory>
+    ensures { OnOk result (out.new.items ≡ out.old.items ++ refusal_line doc.now at (Fault.NoElement c k)) }
+{
+    push_refused(out, at, b"55 no such element: ")?;
+    push_object(out, doc, c)?;
+    push_bytes(out, b", ")?;
+    push_place(out, u64::from(k))?;
+    push_bytes(out, b"\n")
+}
+
+#[tactic(auto, unfolding(crate::specs::Refusals::refusal_line))]
+fn push_not_parallel(out: &mut Vec<u8>, doc: &Doc, at: Option<u32>) -> Result<(), NoMemory>
+    ensures { OnOk result (out.new.items ≡ out.old.items ++ refusal_line doc.now at Fault.NotParallel) }
+{
+    push_refused(out, at, b"70 ends: ")?;
+    push_tested_at(out, doc, at)?;
+    push_bytes(out, b"\n")
+}
+
 /// The line of a refusal. Other refusals come with their statements, and have no line yet.
 #[tactic(auto, unfolding(crate::specs::Refusals::refusal_line))]
 pub fn push_refusal(
@@ -219,6 +309,10 @@ pub fn push_refusal(
         Fault::RestrictionMissing { f } => push_restriction_missing(out, doc, at, *f),
         Fault::NotTotal { f, x } => push_not_total(out, doc, at, *f, *x),
         Fault::NotFunctorial { g, f, x } => push_not_functorial(out, doc, at, *g, *f, *x),
+        Fault::MapNotTotal { at: c, x } => push_map_not_total(out, doc, at, *c, *x),
+        Fault::NotNatural { f, x } => push_not_natural(out, doc, at, *f, *x),
+        Fault::NoElement { at: c, k } => push_no_element(out, doc, at, *c, *k),
+        Fault::NotParallel => push_not_parallel(out, doc, at),
         _ => Ok(()),
     }
 }

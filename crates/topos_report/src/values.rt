@@ -123,7 +123,7 @@ fn push_function(
 /// The value v of the type at the object c.
 #[cycle(values)]
 #[tactic(auto, using(crate::proofs::Spellings::spelling_rules, topos_model::proofs::Nodes::nodes_rules))]
-fn push_value(out: &mut Vec<u8>, doc: &Doc, ty: &Ty, c: u32, v: &Val) -> Result<(), NoMemory>
+pub fn push_value(out: &mut Vec<u8>, doc: &Doc, ty: &Ty, c: u32, v: &Val) -> Result<(), NoMemory>
     ensures { OnOk result (out.new.items ≡ out.old.items ++ value_text doc.now ty.now c v.now) }
 {
     match ty {
