@@ -50,6 +50,19 @@ pub fn word<'t, 'a>(tokens: &'t [Token<'a>]) -> Option<(Word, &'t [Token<'a>])>
     }
 }
 
+/// The tokens behind a reserved word that has to stand in front.
+pub fn expect_word<'t, 'a>(
+    tokens: &'t [Token<'a>],
+    wanted: Word,
+) -> Result<&'t [Token<'a>], ReadFault>
+    ensures { IfOk result (λ rest. length rest.now < length tokens.now) }
+{
+    match word(tokens) {
+        Some((found, rest)) if found == wanted => Ok(rest),
+        _ => Err(ReadFault::NotBuilt),
+    }
+}
+
 /// The name in front.
 pub fn name<'t, 'a>(tokens: &'t [Token<'a>]) -> Result<(&'a [u8], &'t [Token<'a>]), ReadFault>
     ensures { IfOk result (λ r. length r.1.now < length tokens.now) }

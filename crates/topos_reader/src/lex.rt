@@ -8,6 +8,9 @@ use std::alloc::Global;
 /// The most bytes of a name.
 const NAME_BYTES: usize = 255;
 
+/// The most digits of an element's number.
+const PLACE_DIGITS: usize = 9;
+
 /// The tokens of a text.
 pub fn lex<'a>(alloc: Global, text: &'a [u8]) -> Result<Vec<Token<'a>>, ReadFault> {
     if !text.iter().all(|byte| byte.is_ascii()) {
@@ -54,6 +57,7 @@ fn front(text: &[u8]) -> Result<(Token<'_>, &[u8]), ReadFault>
 {
     match text.split_first() {
         Some((first, _)) if begins_name(*first) => name_or_word(text),
+        Some((b'#', digits)) => place(digits),
         _ => symbol(text),
     }
 }
@@ -75,6 +79,34 @@ fn name_or_word(text: &[u8]) -> Result<(Token<'_>, &[u8]), ReadFault>
         return Err(ReadFault::NotBuilt);
     }
     Ok((Token::Name(name), rest))
+}
+
+/// The number of an element behind its sign: one to nine digits. The text behind it.
+fn place(text: &[u8]) -> Result<(Token<'_>, &[u8]), ReadFault>
+    ensures { IfOk result (λ r. length r.1.now ≤ length text.now) }
+{
+    let count = text
+        .iter()
+        .position(|byte| !byte.is_ascii_digit())
+        .unwrap_or(text.len());
+    if count == 0 || count > PLACE_DIGITS {
+        return Err(ReadFault::NotBuilt);
+    }
+    let (digits, rest) = text.split_at(count);
+    Ok((Token::Place(decimal(digits)?), rest))
+}
+
+/// The number with these digits.
+fn decimal(digits: &[u8]) -> Result<u32, ReadFault> {
+    let mut number = 0_u32;
+    for digit in digits {
+        let value = u32::from(digit.wrapping_sub(b'0'));
+        number = number
+            .checked_mul(10)
+            .and_then(|tens| tens.checked_add(value))
+            .ok_or(ReadFault::NotBuilt)?;
+    }
+    Ok(number)
 }
 
 fn begins_name(byte: u8) -> bool {

@@ -2,10 +2,13 @@
 ghost use Rattle.std.specs.Prelude.{◌<◌, ◌≤◌, length, IfOk};
 
 use crate::ReadFault;
-use crate::front::{after, begins, expect, name, tail, word};
+use crate::front::{after, begins, expect, expect_word, name, tail, word};
 use crate::terms::formula;
 use crate::token::{Symbol, Token, Word};
-use crate::tree::{ArrowName, Document, Entry, Section, SiteStatement, Statement, Variable};
+use crate::tree::{
+    ArrowName, Document, ElementName, Entry, Making, MapEntry, MapSection, Section, SiteStatement,
+    Statement, Variable,
+};
 use std::alloc::Global;
 
 /// The most statements of a document.
@@ -62,6 +65,25 @@ impl<'a> Item<'a> for Entry<'a> {
         let (from, rest) = name(tokens)?;
         let (to, rest) = name(expect(rest, Symbol::Arrow)?)?;
         Ok((Entry { from, to }, rest))
+    }
+}
+
+/// An element by its name or its number.
+fn element<'t, 'a>(tokens: &'t [Token<'a>]) -> Result<(ElementName<'a>, &'t [Token<'a>]), ReadFault>
+    ensures { IfOk result (λ r. length r.1.now < length tokens.now) }
+{
+    match tokens.split_first() {
+        Some((Token::Name(name), rest)) => Ok((ElementName::Named(*name), rest)),
+        Some((Token::Place(number), rest)) => Ok((ElementName::Numbered(*number), rest)),
+        _ => Err(ReadFault::NotBuilt),
+    }
+}
+
+impl<'a> Item<'a> for MapEntry<'a> {
+    fn parse<'t>(tokens: &'t [Token<'a>]) -> Result<(MapEntry<'a>, &'t [Token<'a>]), ReadFault> {
+        let (from, rest) = element(tokens)?;
+        let (to, rest) = element(expect(rest, Symbol::Arrow)?)?;
+        Ok((MapEntry { from, to }, rest))
     }
 }
 
@@ -214,7 +236,21 @@ fn arrow_name<'t, 'a>(
 
 impl<'a> Phrase<'a> for Statement<'a> {
     fn begins(word: Word) -> bool {
-        matches!(word, Word::Presheaf | Word::Show)
+        matches!(
+            word,
+            Word::Presheaf
+                | Word::Map
+                | Word::Product
+                | Word::Coproduct
+                | Word::Equalizer
+                | Word::Coequalizer
+                | Word::Pullback
+                | Word::Pushout
+                | Word::Image
+                | Word::Empty
+                | Word::Hom
+                | Word::Show
+        )
     }
 
     fn parse<'t>(
@@ -223,8 +259,11 @@ impl<'a> Phrase<'a> for Statement<'a> {
     ) -> Result<(Statement<'a>, &'t [Token<'a>]), ReadFault> {
         match word(tokens) {
             Some((Word::Presheaf, rest)) => presheaf(alloc, rest),
+            Some((Word::Map, rest)) => map(alloc, rest),
+            Some((Word::Hom, rest)) => hom(rest),
             Some((Word::Show, rest)) => show(alloc, rest),
-            _ => Err(ReadFault::NotBuilt),
+            Some((word, rest)) => made(alloc, word, rest),
+            None => Err(ReadFault::NotBuilt),
         }
     }
 }
@@ -243,6 +282,114 @@ fn presheaf<'t, 'a>(
         Statement::Presheaf {
             name: functor,
             sections,
+        },
+        rest,
+    ))
+}
+
+/// A map's name, its ends and its sections.
+fn map<'t, 'a>(
+    alloc: Global,
+    tokens: &'t [Token<'a>],
+) -> Result<(Statement<'a>, &'t [Token<'a>]), ReadFault>
+    ensures { IfOk result (λ r. length r.1.now < length tokens.now) }
+{
+    let (map, rest) = name(tokens)?;
+    let (domain, rest) = name(expect(rest, Symbol::Colon)?)?;
+    let (codomain, rest) = name(expect(rest, Symbol::Arrow)?)?;
+    let (sections, rest) = phrases(alloc, expect(rest, Symbol::OpenBrace)?)?;
+    let rest = expect(rest, Symbol::CloseBrace)?;
+    Ok((
+        Statement::Map {
+            name: map,
+            domain,
+            codomain,
+            sections,
+        },
+        rest,
+    ))
+}
+
+impl<'a> Phrase<'a> for MapSection<'a> {
+    fn begins(word: Word) -> bool {
+        matches!(word, Word::At)
+    }
+
+    fn parse<'t>(
+        alloc: Global,
+        tokens: &'t [Token<'a>],
+    ) -> Result<(MapSection<'a>, &'t [Token<'a>]), ReadFault> {
+        let (object, rest) = name(expect_word(tokens, Word::At)?)?;
+        let (entries, rest) = list(alloc, expect(rest, Symbol::Colon)?)?;
+        Ok((MapSection { object, entries }, rest))
+    }
+}
+
+/// The ends of all maps that are listed.
+fn hom<'t, 'a>(tokens: &'t [Token<'a>]) -> Result<(Statement<'a>, &'t [Token<'a>]), ReadFault>
+    ensures { IfOk result (λ r. length r.1.now < length tokens.now) }
+{
+    let (domain, rest) = name(tokens)?;
+    let (codomain, rest) = name(rest)?;
+    Ok((Statement::Hom { domain, codomain }, rest))
+}
+
+/// What a functor is made of, by the first word of its statement, and how many maps it is made with.
+fn making<'t, 'a>(
+    first: Word,
+    tokens: &'t [Token<'a>],
+) -> Result<(Making<'a>, usize, &'t [Token<'a>]), ReadFault>
+    ensures { IfOk result (λ r. length r.2.now ≤ length tokens.now) }
+{
+    if first == Word::Empty {
+        return Ok((Making::Empty, 0, tokens));
+    }
+    let (x, rest) = name(tokens)?;
+    if first == Word::Image {
+        return Ok((Making::Image(x), 2, rest));
+    }
+    let (y, rest) = name(rest)?;
+    match first {
+        Word::Product => Ok((Making::Product(x, y), 2, rest)),
+        Word::Coproduct => Ok((Making::Coproduct(x, y), 2, rest)),
+        Word::Equalizer => Ok((Making::Equalizer(x, y), 1, rest)),
+        Word::Coequalizer => Ok((Making::Coequalizer(x, y), 1, rest)),
+        Word::Pullback => Ok((Making::Pullback(x, y), 2, rest)),
+        Word::Pushout => Ok((Making::Pushout(x, y), 2, rest)),
+        _ => Err(ReadFault::NotBuilt),
+    }
+}
+
+/// A functor that is made, and its maps.
+fn made<'t, 'a>(
+    alloc: Global,
+    first: Word,
+    tokens: &'t [Token<'a>],
+) -> Result<(Statement<'a>, &'t [Token<'a>]), ReadFault>
+    ensures { IfOk result (λ r. length r.1.now < length tokens.now) }
+{
+    let (making, count, rest) = making(first, tokens)?;
+    let (functor, rest) = name(expect_word(rest, Word::As)?)?;
+    if count == 0 {
+        let maps = Vec::new(alloc);
+        return Ok((
+            Statement::Made {
+                making,
+                functor,
+                maps,
+            },
+            rest,
+        ));
+    }
+    let (maps, rest) = list(alloc, expect_word(rest, Word::With)?)?;
+    if maps.len() != count {
+        return Err(ReadFault::NotBuilt);
+    }
+    Ok((
+        Statement::Made {
+            making,
+            functor,
+            maps,
         },
         rest,
     ))

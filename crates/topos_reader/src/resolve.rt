@@ -2,12 +2,14 @@
 use crate::ReadFault;
 use crate::scope::{Arrow, Meaning, Numbering, Scope, declare, number, number_of};
 use crate::tree::{
-    ArrowName, Document, Entry, Formula, Section, SiteStatement, Statement, Variable,
+    ArrowName, Document, ElementName, Entry, Formula, Making, MapSection, Section, SiteStatement,
+    Statement, Variable,
 };
 use indexmap::{IndexMap, IndexSet};
 use std::alloc::Global;
 use topos_model::{
-    Boxed, Ctx, Doc, FunctorName, Name, RawAlong, RawCat, RawFunctor, Row, Stmt, Term, TopDecl, Ty,
+    Boxed, Ctx, Doc, FunctorName, Name, RawAlong, RawCat, RawEntry, RawFunctor, RawMap, Row, Stmt,
+    Term, TopDecl, Ty,
 };
 
 /// The most objects of a site.
@@ -19,30 +21,32 @@ const ARROWS: usize = 512;
 /// The most elements of a functor at one object.
 const ELEMENTS: usize = 256;
 
+/// What the statements so far declare, by numbers.
+#[derive(Drop)]
+struct Declared<'a> {
+    scope: Scope<'a>,
+    objects: u32,
+    functors: Row<FunctorName>,
+    /// The elements of each functor at the objects, and none where it is made.
+    elements: Vec<Option<Stages<'a>>>,
+    maps: Row<Name>,
+}
+
 /// The document of a syntax tree.
 pub fn document(alloc: Global, tree: &Document<'_>) -> Result<Doc, ReadFault> {
     let mut scope = Scope::new(alloc);
     let site = site_of(alloc, &mut scope, &tree.site)?;
     let site_len = number(tree.site.len())?;
-    let objects = site.cat.objects;
-    let mut functors = Row::new(alloc);
+    let mut declared = Declared {
+        scope,
+        objects: site.cat.objects,
+        functors: Row::new(alloc),
+        elements: Vec::new(alloc),
+        maps: Row::new(alloc),
+    };
     let mut stmts = Row::new(alloc);
     for statement in &tree.statements {
-        match statement {
-            Statement::Presheaf { name, sections } => {
-                let functor = number(functors.len())?;
-                let (elements, raw) = presheaf(alloc, &scope, objects, sections)?;
-                scope.declare(*name, Meaning::Functor(functor))?;
-                functors.push(FunctorName {
-                    name: name_of(alloc, *name)?,
-                    elements: Some(elements),
-                })?;
-                stmts.push(Stmt::Presheaf { functor, raw })?;
-            }
-            Statement::Show { context, formula } => {
-                stmts.push(show(alloc, &scope, context, formula)?)?;
-            }
-        }
+        stmts.push(statement_of(alloc, &mut declared, statement)?)?;
     }
     let tops = without_covers(alloc)?;
     Ok(Doc {
@@ -52,14 +56,206 @@ pub fn document(alloc: Global, tree: &Document<'_>) -> Result<Doc, ReadFault> {
         cat: site.cat,
         tops,
         site_len,
-        functors,
-        maps: Row::new(alloc),
+        functors: declared.functors,
+        maps: declared.maps,
         stmts,
         cats: Row::new(alloc),
         cat_functors: Row::new(alloc),
         on_functors: Row::new(alloc),
         on_maps: Row::new(alloc),
     })
+}
+
+/// A statement by numbers. What it declares is known behind it.
+fn statement_of<'a>(
+    alloc: Global,
+    declared: &mut Declared<'a>,
+    statement: &Statement<'a>,
+) -> Result<Stmt, ReadFault> {
+    match statement {
+        Statement::Presheaf { name, sections } => {
+            let (names, stages, raw) = presheaf(
+                alloc,
+                &declared.scope,
+                declared.objects,
+                sections,
+            )?;
+            let functor = declare_functor(alloc, declared, *name, Some(names), Some(stages))?;
+            Ok(Stmt::Presheaf { functor, raw })
+        }
+        Statement::Map {
+            name,
+            domain,
+            codomain,
+            sections,
+        } => {
+            let dom = declared.scope.functor(*domain)?;
+            let cod = declared.scope.functor(*codomain)?;
+            let raw = listed_map(alloc, declared, dom, cod, sections)?;
+            let map = declare_map(alloc, declared, *name)?;
+            Ok(Stmt::Map { map, dom, cod, raw })
+        }
+        Statement::Made {
+            making,
+            functor,
+            maps,
+        } => made(alloc, declared, *making, *functor, maps),
+        Statement::Hom { domain, codomain } => {
+            let x = declared.scope.functor(*domain)?;
+            let y = declared.scope.functor(*codomain)?;
+            Ok(Stmt::Hom { x, y })
+        }
+        Statement::Show { context, formula } => show(alloc, &declared.scope, context, formula),
+    }
+}
+
+/// Declares a functor. One that is made has no names of elements.
+fn declare_functor<'a>(
+    alloc: Global,
+    declared: &mut Declared<'a>,
+    name: &'a [u8],
+    names: Option<Row<Row<Name>>>,
+    stages: Option<Stages<'a>>,
+) -> Result<u32, ReadFault> {
+    let functor = number(declared.functors.len())?;
+    declared.scope.declare(name, Meaning::Functor(functor))?;
+    declared.functors.push(FunctorName {
+        name: name_of(alloc, name)?,
+        elements: names,
+    })?;
+    declared.elements.push(stages)?;
+    Ok(functor)
+}
+
+fn declare_map<'a>(
+    alloc: Global,
+    declared: &mut Declared<'a>,
+    name: &'a [u8],
+) -> Result<u32, ReadFault> {
+    let map = number(declared.maps.len())?;
+    declared.scope.declare(name, Meaning::Map(map))?;
+    declared.maps.push(name_of(alloc, name)?)?;
+    Ok(map)
+}
+
+/// The number of an element at an object of a functor. A place is the number itself, whether or not there is such an element.
+fn element_of(
+    declared: &Declared<'_>,
+    functor: u32,
+    object: u32,
+    name: ElementName<'_>,
+) -> Result<u32, ReadFault> {
+    match name {
+        ElementName::Numbered(number) => Ok(number),
+        ElementName::Named(name) => match declared.elements.get(functor as usize) {
+            Some(Some(stages)) => element(stages, object, name),
+            _ => Err(ReadFault::NotBuilt),
+        },
+    }
+}
+
+/// The listed values of a map. Each object has at most one section, and each element at most one value.
+fn listed_map(
+    alloc: Global,
+    declared: &Declared<'_>,
+    dom: u32,
+    cod: u32,
+    sections: &[MapSection<'_>],
+) -> Result<RawMap, ReadFault> {
+    let mut entries = Row::new(alloc);
+    let mut objects = IndexSet::new(alloc);
+    let mut seen = IndexSet::new(alloc);
+    for section in sections {
+        let at = declared.scope.object(section.object)?;
+        if !objects.insert(at)? {
+            return Err(ReadFault::NotBuilt);
+        }
+        for entry in &section.entries {
+            let from = element_of(declared, dom, at, entry.from)?;
+            let to = element_of(declared, cod, at, entry.to)?;
+            if !seen.insert((at, from))? {
+                return Err(ReadFault::NotBuilt);
+            }
+            entries.push(RawEntry { at, from, to })?;
+        }
+    }
+    Ok(RawMap { entries })
+}
+
+/// The functors or maps that a functor is made of, by numbers.
+fn ends_of(declared: &Declared<'_>, making: Making<'_>) -> Result<(u32, u32), ReadFault> {
+    match making {
+        Making::Product(x, y) | Making::Coproduct(x, y) => {
+            Ok((declared.scope.functor(x)?, declared.scope.functor(y)?))
+        }
+        Making::Equalizer(m, n)
+        | Making::Coequalizer(m, n)
+        | Making::Pullback(m, n)
+        | Making::Pushout(m, n) => Ok((declared.scope.map(m)?, declared.scope.map(n)?)),
+        Making::Image(m) => Ok((declared.scope.map(m)?, 0)),
+        Making::Empty => Ok((0, 0)),
+    }
+}
+
+/// A statement that makes a functor, with the maps that it declares.
+fn made<'a>(
+    alloc: Global,
+    declared: &mut Declared<'a>,
+    making: Making<'a>,
+    name: &'a [u8],
+    maps: &[&'a [u8]],
+) -> Result<Stmt, ReadFault> {
+    let (m, n) = ends_of(declared, making)?;
+    let functor = declare_functor(alloc, declared, name, None, None)?;
+    let p = number(declared.maps.len())?;
+    for map in maps {
+        declare_map(alloc, declared, *map)?;
+    }
+    let q = p.saturating_add(1);
+    match making {
+        Making::Product(_, _) => Ok(Stmt::Product {
+            x: m,
+            y: n,
+            functor,
+            p,
+            q,
+        }),
+        Making::Coproduct(_, _) => Ok(Stmt::Coproduct {
+            x: m,
+            y: n,
+            functor,
+            p,
+            q,
+        }),
+        Making::Equalizer(_, _) => Ok(Stmt::Equalizer {
+            m,
+            n,
+            functor,
+            map: p,
+        }),
+        Making::Coequalizer(_, _) => Ok(Stmt::Coequalizer {
+            m,
+            n,
+            functor,
+            map: p,
+        }),
+        Making::Pullback(_, _) => Ok(Stmt::Pullback {
+            m,
+            n,
+            functor,
+            p,
+            q,
+        }),
+        Making::Pushout(_, _) => Ok(Stmt::Pushout {
+            m,
+            n,
+            functor,
+            p,
+            q,
+        }),
+        Making::Image(_) => Ok(Stmt::Image { m, functor, p, q }),
+        Making::Empty => Ok(Stmt::Empty { functor }),
+    }
 }
 
 /// The topology without covers, as the one in force.
@@ -204,13 +400,13 @@ fn composite_of(
 /// The elements of a presheaf at the objects that have some.
 type Stages<'a> = IndexMap<u32, Numbering<'a>>;
 
-/// The names of a presheaf's elements at each object, and the presheaf by numbers.
+/// The names of a presheaf's elements at each object, both ways, and the presheaf by numbers.
 fn presheaf<'a>(
     alloc: Global,
     scope: &Scope<'_>,
     objects: u32,
     sections: &[Section<'a>],
-) -> Result<(Row<Row<Name>>, RawFunctor), ReadFault> {
+) -> Result<(Row<Row<Name>>, Stages<'a>, RawFunctor), ReadFault> {
     let mut stages = IndexMap::new(alloc);
     let mut arrows = IndexSet::new(alloc);
     let mut along = Row::new(alloc);
@@ -233,7 +429,7 @@ fn presheaf<'a>(
         }
     }
     let (names, sizes) = all_stages(alloc, &stages, objects)?;
-    Ok((names, RawFunctor { sizes, along }))
+    Ok((names, stages, RawFunctor { sizes, along }))
 }
 
 /// The elements at one object.

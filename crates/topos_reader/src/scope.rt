@@ -10,6 +10,7 @@ pub enum Meaning {
     Object(u32),
     Arrow(Arrow),
     Functor(u32),
+    Map(u32),
 }
 
 /// A declared arrow: its number and the numbers of its ends.
@@ -54,6 +55,14 @@ impl<'a> Scope<'a> {
     pub fn arrow(&self, name: &[u8]) -> Result<Arrow, ReadFault> {
         match self.names.get(name) {
             Some(Meaning::Arrow(arrow)) => Ok(*arrow),
+            _ => Err(ReadFault::NotBuilt),
+        }
+    }
+
+    /// The map of this name.
+    pub fn map(&self, name: &[u8]) -> Result<u32, ReadFault> {
+        match self.names.get(name) {
+            Some(Meaning::Map(map)) => Ok(*map),
             _ => Err(ReadFault::NotBuilt),
         }
     }

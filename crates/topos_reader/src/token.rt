@@ -4,6 +4,8 @@
 #[derive(Clone, Copy)]
 pub enum Token<'a> {
     Name(&'a [u8]),
+    /// The number of an element.
+    Place(u32),
     Word(Word),
     Symbol(Symbol),
 }

@@ -38,10 +38,60 @@ pub enum Statement<'a> {
         name: &'a [u8],
         sections: Vec<Section<'a>>,
     },
+    Map {
+        name: &'a [u8],
+        domain: &'a [u8],
+        codomain: &'a [u8],
+        sections: Vec<MapSection<'a>>,
+    },
+    /// A functor that is made with maps.
+    Made {
+        making: Making<'a>,
+        functor: &'a [u8],
+        maps: Vec<&'a [u8]>,
+    },
+    Hom {
+        domain: &'a [u8],
+        codomain: &'a [u8],
+    },
     Show {
         context: Vec<Variable<'a>>,
         formula: Formula<'a>,
     },
+}
+
+/// What a functor is made of: functors, or maps.
+#[derive(Clone, Copy)]
+pub enum Making<'a> {
+    Product(&'a [u8], &'a [u8]),
+    Coproduct(&'a [u8], &'a [u8]),
+    Equalizer(&'a [u8], &'a [u8]),
+    Coequalizer(&'a [u8], &'a [u8]),
+    Pullback(&'a [u8], &'a [u8]),
+    Pushout(&'a [u8], &'a [u8]),
+    Image(&'a [u8]),
+    Empty,
+}
+
+/// The listed values of a map at an object.
+#[derive(Drop)]
+pub struct MapSection<'a> {
+    pub object: &'a [u8],
+    pub entries: Vec<MapEntry<'a>>,
+}
+
+/// An element of a functor: by its name, or by its number.
+#[derive(Clone, Copy)]
+pub enum ElementName<'a> {
+    Named(&'a [u8]),
+    Numbered(u32),
+}
+
+/// An element and its image.
+#[derive(Clone, Copy)]
+pub struct MapEntry<'a> {
+    pub from: ElementName<'a>,
+    pub to: ElementName<'a>,
 }
 
 /// A section of a presheaf.
