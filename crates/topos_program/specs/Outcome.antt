@@ -18,12 +18,16 @@ use Rattle.topos_program.specs.Status.{status_of}
 abbrev pub limit : ℕ
 limit = 1048576
 
--- the report of the answers of a document, which stand in the run relation to it, whatever the budget: cells are not counted
+-- how many cells a run may have
+abbrev pub budget : ℕ
+budget = 4000000
+
+-- the report of the answers of a document, which stand in the run relation to it
 pub record IsDocumentReport (written : List ℕ) (ended : Status) : Type 0 where
   pub doc : Doc
   pub answers : List Answer
   pub end : End
-  pub runs : (budget : ℕ) → StagedRunOf doc budget answers end
+  pub runs : StagedRunOf doc budget answers end
   pub written_is : written ≡ report doc answers end
   pub status_is : ended ≡ status_of end
 

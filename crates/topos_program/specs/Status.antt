@@ -23,9 +23,9 @@ IsReported WriteFault = ⊥
 IsReported NoMemory = ⊥
 IsReported Usage = ⊥
 
--- the statuses that a report has so far
-abbrev pub IsDoneOrRefused : Status → Type 0
-IsDoneOrRefused status = (status ≡ Done) ⊎ (status ≡ Refused)
+-- the statuses that a report has so far: no statement with a verdict is run
+abbrev pub IsWithoutVerdict : Status → Type 0
+IsWithoutVerdict status = (status ≡ Done) ⊎ (status ≡ Refused) ⊎ (status ≡ Budget)
 
 -- the number that the program ends with
 abbrev pub code_of : Status → ℕ

@@ -2,7 +2,7 @@
 ghost use Rattle.std.specs.Prelude.{◌≡◌, ◌≤◌, [], ◌∷◌, length, IfOk};
 ghost use Rattle.topos_report.specs.EmptyDocument.{no_category, only_topology, empty_document};
 ghost use Rattle.topos_program.specs.Outcome.{limit, IsDocumentReport, IsTextRefusal, IsReadReport};
-ghost use Rattle.topos_program.specs.Status.{IsDoneOrRefused};
+ghost use Rattle.topos_program.specs.Status.{IsWithoutVerdict};
 
 use crate::status::Status;
 use std::alloc::Global;
@@ -10,6 +10,9 @@ use topos_model::{Doc, End, Fault, NoMemory, RawCat, Row, TopDecl};
 use topos_reader::{ReadFault, read};
 use topos_report::report_bytes;
 use topos_session::run_document;
+
+/// How many cells a run may have.
+const BUDGET: u64 = 4_000_000;
 
 /// A report's bytes, and the status of a run that wrote them.
 #[derive(Drop)]
@@ -67,7 +70,7 @@ fn empty_document(alloc: Global) -> Result<Doc, NoMemory>
 /// The report of a text that is refused as a whole.
 pub fn refusal(alloc: Global) -> Result<Report, NoMemory>
     ensures report { IfOk result (λ report. IsTextRefusal report.text.items report.status) }
-    ensures status { IfOk result (λ report. IsDoneOrRefused report.status) }
+    ensures status { IfOk result (λ report. IsWithoutVerdict report.status) }
 {
     let doc = empty_document(alloc)?;
     let end = End::Refused {
@@ -84,9 +87,9 @@ pub fn refusal(alloc: Global) -> Result<Report, NoMemory>
 /// The report of a document.
 fn document_report(alloc: Global, doc: Doc) -> Result<Report, NoMemory>
     ensures report { IfOk result (λ report. IsDocumentReport report.text.items report.status) }
-    ensures status { IfOk result (λ report. IsDoneOrRefused report.status) }
+    ensures status { IfOk result (λ report. IsWithoutVerdict report.status) }
 {
-    let run = run_document(alloc, doc)?;
+    let run = run_document(alloc, doc, BUDGET)?;
     let text = report_bytes(alloc, &run.doc, run.answers.as_slice(), &run.end)?;
     Ok(Report {
         text,
@@ -98,7 +101,7 @@ fn document_report(alloc: Global, doc: Doc) -> Result<Report, NoMemory>
 pub fn answer(alloc: Global, text: &[u8]) -> Result<Report, NoMemory>
     requires { length text.now ≤ limit }
     ensures report { IfOk result (λ report. IsReadReport report.text.items report.status) }
-    ensures status { IfOk result (λ report. IsDoneOrRefused report.status) }
+    ensures status { IfOk result (λ report. IsWithoutVerdict report.status) }
 {
     match read(alloc, text) {
         Ok(doc) => document_report(alloc, doc),

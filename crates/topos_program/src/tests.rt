@@ -71,6 +71,50 @@ const TABLES: [(&str, &str, Status); 10] = [
     ),
 ];
 
+/// Documents with natural maps, limits, images and colimits, with their reports.
+const MAPS: [(&str, &str, Status); 8] = [
+    (
+        "object V, E; arrow s, t : V -> E; presheaf X { at V : i, j; }; presheaf Y { at V : a, b, c, d; at E : e; along s : e -> a; along t : e -> c; }; map m : X -> Y { at V : i -> a, j -> b; }; map n : X -> Y { at V : i -> b, j -> c; }; coequalizer m n as Q with q;",
+        "7 coequalizer Q\nV: #0 #1\nE: #0\nalong s: #0 -> #0\nalong t: #0 -> #0\nmap q\nV: a -> #0, b -> #0, c -> #0, d -> #1\nE: e -> #0\n",
+        Status::Done,
+    ),
+    (
+        "object U; presheaf X { at U : a, b; }; presheaf Y { at U : p, q; }; map m : X -> Y { at U : a -> p, b -> p; }; map n : X -> Y { at U : a -> p, b -> q; }; product X Y as P with p1, p2; equalizer m n as Q with i; pullback m n as B with b1, b2; image m as I with e, j; empty as Z; coproduct X Y as C with c1, c2; pushout m n as D with d1, d2;",
+        "6 product P\nU: #0 #1 #2 #3\nmap p1\nU: #0 -> a, #1 -> a, #2 -> b, #3 -> b\nmap p2\nU: #0 -> p, #1 -> q, #2 -> p, #3 -> q\n7 equalizer Q\nU: #0\nmap i\nU: #0 -> a\n8 pullback B\nU: #0 #1\nmap b1\nU: #0 -> a, #1 -> b\nmap b2\nU: #0 -> a, #1 -> a\n9 image I\nU: #0\nmap e\nU: a -> #0, b -> #0\nmap j\nU: #0 -> p\n10 empty Z\nU:\n11 coproduct C\nU: #0 #1 #2 #3\nmap c1\nU: a -> #0, b -> #1\nmap c2\nU: p -> #2, q -> #3\n12 pushout D\nU: #0 #1\nmap d1\nU: p -> #0, q -> #1\nmap d2\nU: p -> #0, q -> #0\n",
+        Status::Done,
+    ),
+    (
+        "object V, E; arrow s, t : V -> E; presheaf G { at V : p, q; at E : e, f, l; along s : e -> p, f -> p, l -> q; along t : e -> q, f -> q, l -> p; }; presheaf K { at V : a, b; at E : k; along s : k -> a; along t : k -> b; }; hom K G;",
+        "5 hom 3\nmap #0\nV: a -> p, b -> q\nE: k -> e\nmap #1\nV: a -> p, b -> q\nE: k -> f\nmap #2\nV: a -> q, b -> p\nE: k -> l\n",
+        Status::Done,
+    ),
+    (
+        "object V, E; arrow s, t : V -> E; presheaf K { at V : a, b; at E : k; along s : k -> a; along t : k -> b; }; presheaf G { at V : p, q; at E : e, f, l; along s : e -> p, f -> p, l -> q; along t : e -> q, f -> q, l -> p; }; map m : K -> G { at V : a -> p, b -> p; at E : k -> e; };",
+        "5 refused 54 not natural: t, k\n",
+        Status::Refused,
+    ),
+    (
+        "object V, E; arrow s, t : V -> E; presheaf K { at V : a, b; at E : k; along s : k -> a; along t : k -> b; }; presheaf G { at V : p, q; at E : e, f, l; along s : e -> p, f -> p, l -> q; along t : e -> q, f -> q, l -> p; }; map m : K -> G { at V : a -> p; at E : k -> e; };",
+        "5 refused 53 map not total: V, b\n",
+        Status::Refused,
+    ),
+    (
+        "object U; presheaf X { at U : a; }; map m : X -> X { at U : a -> #1; };",
+        "3 refused 55 no such element: U, #1\n",
+        Status::Refused,
+    ),
+    (
+        "object U; presheaf X { at U : a; }; presheaf Y { at U : b; }; map m : X -> X { at U : a -> a; }; map n : X -> Y { at U : a -> b; }; equalizer m n as E with i;",
+        "6 refused 70 ends: m, n\n",
+        Status::Refused,
+    ),
+    (
+        "object U; presheaf X { at U : a, b, c, d, e, f, g, h; }; hom X X;",
+        "3 budget\n",
+        Status::Budget,
+    ),
+];
+
 /// How the status came out, what the sink holds and what the source has left.
 #[derive(Drop)]
 struct Ran {
@@ -97,7 +141,7 @@ fn run_over(
 /// A run on a text where nothing fails.
 fn run_on(alloc: Global, words: &[&str], text: &[u8]) -> Result<Ran, Fail> {
     let mut src = MemSource::new(text.to_vec(alloc)?, 4096, Vec::new(alloc));
-    let mut out = MemSink::new(alloc, 400, 16, Vec::new(alloc))?;
+    let mut out = MemSink::new(alloc, 4096, 16, Vec::new(alloc))?;
     run_over(alloc, words, &mut src, &mut out)
 }
 
@@ -149,6 +193,14 @@ fn reports(rt: HostRuntime) -> Result<(), Fail> {
 #[test]
 fn listed_tables(rt: HostRuntime) -> Result<(), Fail> {
     for (text, report, status) in TABLES {
+        has_report(&rt, text, report, status)?;
+    }
+    Ok(())
+}
+
+#[test]
+fn maps_and_constructions(rt: HostRuntime) -> Result<(), Fail> {
+    for (text, report, status) in MAPS {
         has_report(&rt, text, report, status)?;
     }
     Ok(())
