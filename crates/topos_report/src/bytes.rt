@@ -1,5 +1,5 @@
 // Bytes and numbers put behind what stands.
-ghost use Rattle.std.specs.Prelude.{◌≡◌, ◌++◌, decimal, OnOk};
+ghost use Rattle.std.specs.Prelude.{◌≡◌, ◌++◌, [], ◌∷◌, decimal, OnOk};
 ghost use Rattle.topos_report.specs.Lists.{separator};
 
 use itoa::Buffer;
@@ -11,6 +11,16 @@ pub fn push_bytes(out: &mut Vec<u8>, bytes: &[u8]) -> Result<(), NoMemory>
 {
     out.extend_from_slice(bytes)?;
     Ok(())
+}
+
+/// Puts a byte last.
+pub fn push_byte(out: &mut Vec<u8>, byte: u8) -> Result<(), NoMemory>
+    ensures { OnOk result (out.new.items ≡ out.old.items ++ byte ∷ []) }
+{
+    match out.push(byte) {
+        Ok(_) => Ok(()),
+        Err(_) => Err(NoMemory),
+    }
 }
 
 /// Puts a number last, in decimal.

@@ -3,7 +3,7 @@ ghost use Rattle.std.specs.Prelude.{◌≡◌, ◌++◌, [], get_or, OnOk};
 ghost use Rattle.topos_report.specs.Names.{object_name, arrow_name, element_name, name_or_number};
 ghost use Rattle.topos_report.specs.Values.{ends_of};
 
-use crate::bytes::{push_bytes, push_number};
+use crate::bytes::{push_byte, push_bytes, push_number};
 use topos_model::{Doc, Name, NoMemory, Row};
 
 /// The name number i, and nothing where there is none.
@@ -69,7 +69,7 @@ fn push_name_or_number(
     match names {
         Some(names) => push_bytes(out, name_at(names_at(names.as_slice(), c), x)),
         None => {
-            push_bytes(out, b"#")?;
+            push_byte(out, b'#')?;
             push_number(out, u64::from(x))
         }
     }

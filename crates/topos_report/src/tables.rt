@@ -7,10 +7,10 @@ ghost use Rattle.topos_report.specs.Tables.{listed, with_places, arrow_text, num
 ghost use Rattle.topos_report.specs.AnswerLines.{heading, made_heading, built_lines, listed_map_lines};
 ghost use Rattle.topos_report.specs.Lead.{lead};
 
-use crate::bytes::{push_bytes, push_number};
+use crate::bytes::{push_byte, push_bytes, push_number};
 use crate::names::{push_arrow_name, push_object};
 use crate::statements::{made_map, push_made_name, push_map_name, push_word};
-use crate::values::push_value;
+use crate::values::push_listed;
 use topos_model::{Doc, MapShape, MapTy, NoMemory, Row, Shape, Stmt, Val};
 
 /// What stands before the entry number i behind a colon.
@@ -29,7 +29,16 @@ fn push_lead(out: &mut Vec<u8>, i: usize) -> Result<(), NoMemory>
 pub fn push_place(out: &mut Vec<u8>, x: u64) -> Result<(), NoMemory>
     ensures { OnOk result (out.new.items ≡ out.old.items ++ place_text x) }
 {
-    push_bytes(out, b"#")?;
+    push_byte(out, b'#')?;
+    push_number(out, x)
+}
+
+/// The same behind a space.
+#[tactic(auto, unfolding(crate::specs::Names::place_text))]
+fn push_spaced_place(out: &mut Vec<u8>, x: u64) -> Result<(), NoMemory>
+    ensures { OnOk result (out.new.items ≡ out.old.items ++ (codes " " ++ place_text x)) }
+{
+    push_bytes(out, b" #")?;
     push_number(out, x)
 }
 
@@ -78,8 +87,7 @@ fn push_numbers(out: &mut Vec<u8>, size: u32) -> Result<(), NoMemory>
     ensures { OnOk result (out.new.items ≡ out.old.items ++ flat_map (λ x. codes " " ++ place_text x) (range_with_len 0 size)) }
 {
     for x in 0..size {
-        push_bytes(out, b" ")?;
-        push_place(out, u64::from(x))?;
+        push_spaced_place(out, u64::from(x))?;
     }
     Ok(())
 }
@@ -163,9 +171,9 @@ fn push_pair_entry(
 ) -> Result<(), NoMemory>
     ensures { OnOk result (out.new.items ≡ out.old.items ++ pair_entry doc.now ends.now c pair.now) }
 {
-    push_value(out, doc, &ends.dom, c, &pair.0)?;
+    push_listed(out, doc, &ends.dom, c, &pair.0)?;
     push_bytes(out, b" -> ")?;
-    push_value(out, doc, &ends.cod, c, &pair.1)
+    push_listed(out, doc, &ends.cod, c, &pair.1)
 }
 
 /// The entries of a map at an object.

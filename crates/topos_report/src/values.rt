@@ -123,7 +123,7 @@ fn push_function(
 /// The value v of the type at the object c.
 #[cycle(values)]
 #[tactic(auto, using(crate::proofs::Spellings::spelling_rules, topos_model::proofs::Nodes::nodes_rules))]
-pub fn push_value(out: &mut Vec<u8>, doc: &Doc, ty: &Ty, c: u32, v: &Val) -> Result<(), NoMemory>
+fn push_value(out: &mut Vec<u8>, doc: &Doc, ty: &Ty, c: u32, v: &Val) -> Result<(), NoMemory>
     ensures { OnOk result (out.new.items ≡ out.old.items ++ value_text doc.now ty.now c v.now) }
 {
     match ty {
@@ -133,6 +133,17 @@ pub fn push_value(out: &mut Vec<u8>, doc: &Doc, ty: &Ty, c: u32, v: &Val) -> Res
         Ty::Two(left, right) => push_pair(out, doc, left.get(), right.get(), c, v),
         Ty::Pow(of) => push_subset(out, doc, of.get(), entries(v)),
         Ty::Fun(from, to) => push_function(out, doc, from.get(), to.get(), assigns(v)),
+    }
+}
+
+/// The same, for lists of values: an element of a functor, their most frequent value, is spelled outside the recursion.
+#[tactic(auto, using(crate::proofs::Spellings::spelling_rules))]
+pub fn push_listed(out: &mut Vec<u8>, doc: &Doc, ty: &Ty, c: u32, v: &Val) -> Result<(), NoMemory>
+    ensures { OnOk result (out.new.items ≡ out.old.items ++ value_text doc.now ty.now c v.now) }
+{
+    match ty {
+        Ty::Base(functor) => push_element(out, doc, *functor, c, number(v)),
+        _ => push_value(out, doc, ty, c, v),
     }
 }
 
@@ -151,7 +162,7 @@ pub fn push_tuple(
     push_bytes(out, b"(")?;
     for i in 0..types.len().min(vals.len()) {
         push_separator(out, i)?;
-        push_value(out, doc, &types[i], c, &vals[i])?;
+        push_listed(out, doc, &types[i], c, &vals[i])?;
     }
     push_bytes(out, b")")
 }
