@@ -1,9 +1,8 @@
 -- Entries behind a colon, an entry at a time; rows with their places; named maps.
-use Rattle.std.proofs.Common.{◌≡◌, ℕ, zero, suc, ◌+◌, ◌<◌, ◌≤◌, List, [], ◌∷◌, ◌++◌, length, map, get_or, take, drop, slice_get, Option, Some, None, refl, sym, ap, ◌∙◌, subst, inl, inr, append_assoc, append-nil, add-one, drop-cons, codes, flat_map, arith}
+use Rattle.std.proofs.Common.{◌≡◌, ℕ, zero, suc, ◌+◌, ◌<◌, ◌≤◌, List, [], ◌∷◌, ◌++◌, length, map, get_or, take, drop, slice_get, Option, Some, None, refl, sym, ap, ◌∙◌, subst, inl, inr, append-nil, add-one, drop-cons, codes, flat_map, arith}
 use Rattle.std.specs.List.{zip, range_with_len}
-use Rattle.std.proofs.lemmas.List.{take_more, take_all, length-take, drop_all, ext_get_or}
+use Rattle.std.proofs.lemmas.List.{take_more, take_all, length-take, drop_all}
 use Rattle.std.proofs.lemmas.Option.{get_or_from_slice_get, slice_get_within, slice_get_cases, slice_get-get_or}
-use Rattle.topos_report.specs.Lists.{comma_separated, separator}
 use Rattle.topos_model.specs.declared.doc.Doc.{Doc}
 use Rattle.topos_model.specs.declared.answer.MapShape.{MapShape}
 use Rattle.topos_report.specs.Names.{place_text}

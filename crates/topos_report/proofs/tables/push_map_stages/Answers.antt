@@ -1,6 +1,5 @@
 use Rattle.std.proofs.Common.{arith}
 use Rattle.std.proofs.lemmas.Grind.{common_steps}
-use Rattle.topos_report.specs.Names.{naming}
 use Rattle.topos_report.specs.Tables.{map_line}
 use Rattle.topos_report.proofs.ObjectLines.{flat_map-range-more}
 use Rattle.topos_report.proofs.tables.push_map_stages.Goals as goal

@@ -1,6 +1,5 @@
 use Rattle.std.proofs.Common.{◌≡◌, ◌++◌, flat_map}
 use Rattle.std.specs.List.{range_with_len}
-use Rattle.topos_report.specs.Names.{naming}
 use Rattle.topos_report.specs.Tables.{map_line}
 use Rattle.topos_report.proofs.tables.push_map_stages.Given as goal
 

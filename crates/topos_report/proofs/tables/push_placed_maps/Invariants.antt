@@ -1,6 +1,5 @@
 use Rattle.std.proofs.Common.{◌≡◌, ◌++◌, flat_map}
 use Rattle.std.specs.List.{range_with_len}
-use Rattle.topos_report.specs.Names.{naming}
 use Rattle.topos_report.specs.AnswerLines.{listed_map_lines}
 use Rattle.topos_report.proofs.tables.push_placed_maps.Given as goal
 
