@@ -2,6 +2,7 @@ ghost use Rattle.std.specs.Prelude.{◌≡◌, ◌<◌, ◌≤◌, ◌+◌, ◌^
 ghost use Rattle.topos_model.specs.Laws.{IsFunctor};
 ghost use Rattle.topos_model.specs.presheaves.PresheafFaults.{IsPresheafListing};
 ghost use Rattle.topos_model.specs.presheaves.MapFaults.{IsMapListing};
+ghost use Rattle.topos_model.specs.presheaves.Maps.{IsNatural};
 ghost use Rattle.topos_model.specs.presheaves.NaturalMaps.{maps};
 ghost use Rattle.natural_maps.specs.Tables.{table_entries, table_along, row_images, IsRowWithin, AreRestrictions};
 
@@ -481,6 +482,107 @@ fn maps_of_an_edge(rt: HostRuntime) -> Result<(), Fail> {
         assert!(rt; false);
     }
     assert!(rt; edge_maps(alloc, 2)?.is_none());
+    Ok(())
+}
+
+// The listed map between sets, or none where there is no such map.
+fn listed_map(
+    alloc: Global,
+    cat: &Cat,
+    p: &Functor,
+    q: &Functor,
+    images: &[u32],
+) -> Result<Option<NatMap>, NoMemory>
+    requires domain { IsFunctor cat.now p.now }
+    requires codomain { IsFunctor cat.now q.now }
+    ensures { IfOk result (λ made. IfSome made (λ map. IsNatural cat.now p.now q.now map)) }
+{
+    match raw_map(alloc, cat, &sole_row(alloc, images)?)? {
+        Some(raw) => Ok(NatMap::check(alloc, cat, p, q, &raw).ok()),
+        None => Ok(None),
+    }
+}
+
+// The set of so many elements, at a single object.
+fn set(alloc: Global, cat: &Cat, size: usize) -> Result<Option<Functor>, NoMemory>
+    ensures { IfOk result (λ made. IfSome made (λ functor. IsFunctor cat.now functor)) }
+{
+    if size > 256 {
+        return Ok(None);
+    }
+    presheaf(alloc, cat, &[size as u32], &Row::new(alloc))
+}
+
+// Where the first map and then the second one takes the elements.
+fn images_of_both(
+    alloc: Global,
+    cat: &Cat,
+    ends: (&Functor, &Functor, &Functor),
+    first: &NatMap,
+    second: &NatMap,
+) -> Result<Row<u32>, NoMemory>
+    requires first { IsNatural cat.now ends.0.now ends.1.now first.now }
+    requires second { IsNatural cat.now ends.1.now ends.2.now second.now }
+{
+    let both = second.after(alloc, first)?;
+    let mut images = Row::new(alloc);
+    for row in both.rows() {
+        for y in row.as_slice() {
+            images.push(*y)?;
+        }
+    }
+    Ok(images)
+}
+
+// Where the first listed map, to two elements, and then the second one, of these to two, takes the elements.
+fn listed_images_of_both(
+    alloc: Global,
+    cat: &Cat,
+    p: &Functor,
+    q: &Functor,
+    first: &[u32],
+    second: &[u32],
+) -> Result<Option<Row<u32>>, NoMemory>
+    requires domain { IsFunctor cat.now p.now }
+    requires codomain { IsFunctor cat.now q.now }
+{
+    if let Some(first) = listed_map(alloc, cat, p, q, first)? {
+        if let Some(second) = listed_map(alloc, cat, q, q, second)? {
+            return Ok(Some(images_of_both(alloc, cat, (p, q, q), &first, &second)?));
+        }
+    }
+    Ok(None)
+}
+
+fn composite_of(
+    alloc: Global,
+    first: &[u32],
+    second: &[u32],
+) -> Result<Option<Row<u32>>, NoMemory> {
+    if let Some(cat) = category(alloc, 1, &[], &[])? {
+        if let Some(p) = set(alloc, &cat, first.len())? {
+            if let Some(q) = set(alloc, &cat, 2)? {
+                return listed_images_of_both(alloc, &cat, &p, &q, first, second);
+            }
+        }
+    }
+    Ok(None)
+}
+
+/// A map of one element to the first of two, and then both of these to one; and three elements that are sent to two, which are turned round.
+#[test]
+fn map_after_a_map(rt: HostRuntime) -> Result<(), Fail> {
+    let alloc = rt.alloc();
+    if let Some(images) = composite_of(alloc, &[0], &[0, 0])? {
+        assert!(rt; images.as_slice() == [0].as_slice());
+    } else {
+        assert!(rt; false);
+    }
+    if let Some(images) = composite_of(alloc, &[0, 1, 1], &[1, 0])? {
+        assert!(rt; images.as_slice() == [1, 0, 0].as_slice());
+    } else {
+        assert!(rt; false);
+    }
     Ok(())
 }
 
