@@ -3,6 +3,7 @@ use Rattle.std.proofs.Common.{◌≡◌, ℕ, zero, suc, ◌+◌, Bool, true, fa
 use Rattle.std.specs.List.{range_with_len}
 use Rattle.std.proofs.lemmas.List.{append-nil, map-append}
 use Rattle.std.proofs.lemmas.Grind.{flat_map-append}
+use Rattle.std.proofs.lemmas.List.Folds.{flat_map-map}
 use Rattle.finite_lists.specs.Members.{In}
 use Rattle.finite_lists.proofs.Lists.{map_same}
 use Rattle.topos_model.specs.categories.Category.{Category}
@@ -12,19 +13,15 @@ use Rattle.topos_model.specs.presheaves.NaturalMaps.{choices, rows, all_componen
 use Rattle.natural_maps.specs.Places.{cut}
 use Rattle.natural_maps.specs.Search.{assignments, bounds_of, sizes_of, is_natural, under}
 use Rattle.natural_maps.proofs.AllMaps.{In-choices_from}
-use Rattle.natural_maps.proofs.Searches.{map_map}
+use Rattle.std.proofs.lemmas.Simd.{map-map}
 
 map_alike : {A : Type 0} (f : A → A) (xs : List A) → ((x : A) → f x ≡ x) → map f xs ≡ xs
 map_alike f [] h = refl
 map_alike f (x ∷ xs) h = ap (λ y. y ∷ map f xs) (h x) ∙ ap (λ l. x ∷ l) (map_alike f xs h)
 
-joined_joined : {A B C : Type 0} (g : B → List C) (f : A → List B) (xs : List A) → flat_map g (flat_map f xs) ≡ flat_map (λ x. flat_map g (f x)) xs
+pub joined_joined : {A B C : Type 0} (g : B → List C) (f : A → List B) (xs : List A) → flat_map g (flat_map f xs) ≡ flat_map (λ x. flat_map g (f x)) xs
 joined_joined g f [] = refl
 joined_joined g f (x ∷ xs) = flat_map-append g (f x) (flat_map f xs) ∙ ap (λ l. flat_map g (f x) ++ l) (joined_joined g f xs)
-
-joined_map : {A B C : Type 0} (g : B → List C) (f : A → B) (xs : List A) → flat_map g (map f xs) ≡ flat_map (λ x. g (f x)) xs
-joined_map g f [] = refl
-joined_map g f (x ∷ xs) = ap (λ l. g (f x) ++ l) (joined_map g f xs)
 
 pub map_joined : {A B C : Type 0} (h : B → C) (g : A → List B) (xs : List A) → map h (flat_map g xs) ≡ flat_map (λ x. map h (g x)) xs
 map_joined h g [] = refl
@@ -49,8 +46,8 @@ choices_append [] yss = sym (append-nil (map (λ b. b) (choices yss)) ∙ map_al
 choices_append {A} (xs ∷ xss) yss =
     joined_same (λ x. map (λ b. x ∷ b) (choices (xss ++ yss))) (λ x. flat_map (λ a. map (λ b. a ++ b) (choices yss)) (map (λ a. x ∷ a) (choices xss))) xs (λ x i.
     ap (map (λ b. x ∷ b)) (choices_append xss yss) ∙ map_joined (λ b. x ∷ b) (λ a. map (λ b. a ++ b) (choices yss)) (choices xss)
-    ∙ joined_same (λ a. map (λ b. x ∷ b) (map (λ b. a ++ b) (choices yss))) (λ a. map (λ b. x ∷ a ++ b) (choices yss)) (choices xss) (λ a j. map_map (λ b. x ∷ b) (λ b. a ++ b) (choices yss))
-    ∙ sym (joined_map (λ a. map (λ b. a ++ b) (choices yss)) (λ a. x ∷ a) (choices xss)))
+    ∙ joined_same (λ a. map (λ b. x ∷ b) (map (λ b. a ++ b) (choices yss))) (λ a. map (λ b. x ∷ a ++ b) (choices yss)) (choices xss) (λ a j. map-map (λ b. x ∷ b) (λ b. a ++ b) (choices yss))
+    ∙ sym (flat_map-map (λ a. map (λ b. a ++ b) (choices yss)) (λ a. x ∷ a) (choices xss)))
     ∙ sym (joined_joined (λ a. map (λ b. a ++ b) (choices yss)) (λ x. map (λ a. x ∷ a) (choices xss)) xs)
 
 abbrev joined : {A : Type 0} → List (List A) → List A
@@ -80,9 +77,9 @@ unfolding choices
 cut_choices [] = refl
 cut_choices {A} (xss ∷ rest) =
     joined_same (λ a. map (λ m. a ∷ m) (choices (map choices rest))) (λ a. map (cut (map length (xss ∷ rest))) (map (λ b. a ++ b) (choices (joined rest)))) (choices xss) (λ a i.
-    ap (map (λ m. a ∷ m)) (cut_choices rest) ∙ map_map (λ m. a ∷ m) (cut (map length rest)) (choices (joined rest))
+    ap (map (λ m. a ∷ m)) (cut_choices rest) ∙ map-map (λ m. a ∷ m) (cut (map length rest)) (choices (joined rest))
     ∙ map_same (λ b. a ∷ cut (map length rest) b) (λ b. cut (map length (xss ∷ rest)) (a ++ b)) (choices (joined rest)) (λ b j. sym (cut_first (length xss) (map length rest) a b (In-choices_from xss a i).places))
-    ∙ sym (map_map (cut (map length (xss ∷ rest))) (λ b. a ++ b) (choices (joined rest))))
+    ∙ sym (map-map (cut (map length (xss ∷ rest))) (λ b. a ++ b) (choices (joined rest))))
     ∙ sym (map_joined (cut (map length (xss ∷ rest))) (λ a. map (λ b. a ++ b) (choices (joined rest))) (choices xss))
     ∙ ap (map (cut (map length (xss ∷ rest)))) (sym (choices_append xss (joined rest)))
 
@@ -111,7 +108,7 @@ module _ (P Q : Presheaf) where
 pub all_components_cut : (k : Category) (P Q : Presheaf) → all_components k P Q ≡ map (cut (sizes_of k P)) (assignments (bounds_of k P Q))
 unfolding all_components rows
 all_components_cut k P Q =
-    ap choices (sym (map_map choices (lists_at P Q) (range_with_len 0 k.objects))) ∙ cut_choices (map (lists_at P Q) (range_with_len 0 k.objects))
+    ap choices (sym (map-map choices (lists_at P Q) (range_with_len 0 k.objects))) ∙ cut_choices (map (lists_at P Q) (range_with_len 0 k.objects))
     ∙ ap (λ l. map (cut l) (choices (joined (map (lists_at P Q) (range_with_len 0 k.objects))))) (lengths P Q (range_with_len 0 k.objects))
     ∙ ap (λ l. map (cut (sizes_of k P)) (choices l)) (joined_bounds P Q (range_with_len 0 k.objects))
 

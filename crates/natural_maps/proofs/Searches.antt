@@ -1,4 +1,5 @@
 -- One step of the search for all natural assignments.
+use Rattle.std.proofs.lemmas.Simd.{map-map}
 use Rattle.std.proofs.Common.{◌≡◌, ℕ, zero, suc, ◌+◌, ◌-◌, ◌<◌, ◌≤◌, Bool, false, cond, inl, inr, List, [], ◌∷◌, ◌++◌, map, length, get_or, take, drop, filter, flat_map, refl, sym, ap, ◌∙◌, arith}
 use Rattle.std.specs.List.{range_with_len}
 use Rattle.std.proofs.lemmas.List.{append-nil, map-append, drop_more, drop_all}
@@ -8,10 +9,6 @@ use Rattle.finite_lists.proofs.Lists.{In-map_from, map_same}
 use Rattle.presheaf_core.proofs.Tables.{range_from}
 use Rattle.topos_model.specs.presheaves.NaturalMaps.{choices}
 use Rattle.natural_maps.specs.Search.{assignments, under, under_from, later}
-
-pub map_map : {A B C : Type 0} (f : B → C) (g : A → B) (xs : List A) → map f (map g xs) ≡ map (λ x. f (g x)) xs
-map_map f g [] = refl
-map_map f g (x ∷ xs) = ap (λ l. f (g x) ∷ l) (map_map f g xs)
 
 -- a filter of joined lists is the joined filters, and so with a map
 filter_map-flat_map : {A B C : Type 0} (p : C → Bool) (h : B → C) (f : A → List B) (xs : List A) → filter p (map h (flat_map f xs)) ≡ flat_map (λ x. filter p (map h (f x))) xs
@@ -32,7 +29,7 @@ length_one : (p : List ℕ) (v : ℕ) → length (p ++ v ∷ []) ≡ length p + 
 length_one [] v = refl
 length_one (x ∷ p) v = omega (arith, length_one p v)
 
-none_kept : {A : Type 0} (p : A → Bool) (xs : List A) → ((x : A) → In xs x → p x ≡ false) → filter p xs ≡ []
+pub none_kept : {A : Type 0} (p : A → Bool) (xs : List A) → ((x : A) → In xs x → p x ≡ false) → filter p xs ≡ []
 none_kept p [] h = refl
 none_kept p (x ∷ xs) h = ap (λ b. cond b (x ∷ filter p xs) (filter p xs)) (h x (inl refl)) ∙ none_kept p xs (λ y i. h y (inr i))
 
@@ -58,7 +55,7 @@ module _ (natural : List ℕ → Bool) (bounds : List ℕ) where
       ap (λ l. filter natural (map (λ rest. p ++ rest) (assignments l))) (drop_more bounds (length p) 0 low)
       ∙ filter_map-flat_map natural (λ rest. p ++ rest) (λ v. map (λ rest. v ∷ rest) left) (range_with_len 0 (get_or bounds (length p) 0))
       ∙ flat_map_same _ _ (range_with_len 0 (get_or bounds (length p) 0)) (λ v.
-      ap (filter natural) (map_map (λ rest. p ++ rest) (λ rest. v ∷ rest) left ∙ map_same _ _ left (λ rest i. sym (append_one p v rest)))
+      ap (filter natural) (map-map (λ rest. p ++ rest) (λ rest. v ∷ rest) left ∙ map_same _ _ left (λ rest i. sym (append_one p v rest)))
       ∙ ap (λ n. filter natural (map (λ rest. (p ++ v ∷ []) ++ rest) (assignments (drop n bounds)))) (sym (length_one p v)))
       ∙ ap (λ n. flat_map (λ w. filter natural (map (λ rest. (p ++ w ∷ []) ++ rest) (assignments (drop (length (p ++ w ∷ [])) bounds)))) (range_with_len 0 n)) whole
     where

@@ -10,11 +10,11 @@ use Rattle.topos_model.specs.categories.Category.{Category, dom, cod}
 use Rattle.topos_model.specs.presheaves.PresheafFaults.{IsPresheafListing}
 use Rattle.topos_model.specs.presheaves.MapFaults.{IsMapListing}
 use Rattle.natural_maps.specs.Tables.{along_at, table_along, row_images, table_images, AreRestrictions}
-use Rattle.natural_maps.proofs.Searches.{map_map}
+use Rattle.std.proofs.lemmas.Simd.{map-map}
 use Rattle.natural_maps.proofs.FlatMaps.{map_joined}
 
 once : {A B : Type 0} (key : A → B) (f : ℕ → A) → ((i j : ℕ) → key (f i) ≡ key (f j) → i ≡ j) → (a n : ℕ) → Distinct (map key (map f (range_with_len a n)))
-once key f apart a n = subst Distinct (sym (map_map key f (range_with_len a n))) (Distinct-map (λ i. key (f i)) (range_with_len a n) apart (Distinct-range a n))
+once key f apart a n = subst Distinct (sym (map-map key f (range_with_len a n))) (Distinct-map (λ i. key (f i)) (range_with_len a n) apart (Distinct-range a n))
 
 pub presheaf_listing : (k : Category) (sizes : List ℕ) (rows : List (List ℕ)) → length sizes ≡ k.objects → AreRestrictions k sizes rows → IsPresheafListing k (record { sizes = sizes; along = table_along k.objects rows })
 presheaf_listing k sizes rows sized are = record {

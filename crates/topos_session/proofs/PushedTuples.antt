@@ -20,6 +20,7 @@ use Rattle.topos_model.specs.statements.Form.{is_functor_name, is_propositional}
 use Rattle.topos_model.specs.formulas.Forcing.{Assigned, forces, values, shown}
 use Rattle.topos_model.specs.declared.answer.Tuple.{Tuple}
 use Rattle.topos_model.specs.statements.Answers.{tuple_of}
+use Rattle.presheaf_core.proofs.Tables.{numbers_more}
 use Rattle.topos_model.proofs.TypeEquations.{elements-Base}
 use Rattle.topos_session.specs.declared.variable.Variable.{Variable}
 use Rattle.topos_session.specs.Extensions.{extensions}
@@ -95,13 +96,10 @@ tuple_of_variables vs = ap (λ l. record { vals = l }) (ap (map (λ (x : Ty × V
     values_of [] = refl
     values_of (u ∷ us) = ap (λ l. El u.element ∷ l) (values_of us)
 
-range-more : (n : ℕ) → range_with_len 0 (n + 1) ≡ range_with_len 0 n ++ n ∷ []
-range-more n = sym (map-none (range_with_len 0 (n + 1))) ∙ map-range_with_len_more (λ x. x) 0 n n (omega arith) ∙ ap (λ l. l ++ n ∷ []) (map-none (range_with_len 0 n))
-
 pub forced_more : (k : Category) (functors : List Presheaf) (φ : Term) (c n : ℕ) (rest : List Ty) (vs : List Variable) (m : ℕ)
     → forced_below k functors φ c n rest vs (m + 1) ≡ forced_below k functors φ c n rest vs m ++ forced_extensions k functors φ c rest (vs ++ record { functor = n; element = m } ∷ [])
 forced_more k functors φ c n rest vs m =
-    ap (flat_map (λ x. forced_extensions k functors φ c rest (vs ++ record { functor = n; element = x } ∷ []))) (range-more m)
+    ap (flat_map (λ x. forced_extensions k functors φ c rest (vs ++ record { functor = n; element = x } ∷ []))) (numbers_more m)
     ∙ flat_map-append (λ x. forced_extensions k functors φ c rest (vs ++ record { functor = n; element = x } ∷ [])) (range_with_len 0 m) (m ∷ [])
     ∙ ap (λ l. forced_below k functors φ c n rest vs m ++ l) (append-nil (forced_extensions k functors φ c rest (vs ++ record { functor = n; element = m } ∷ [])))
 

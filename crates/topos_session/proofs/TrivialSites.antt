@@ -19,6 +19,7 @@ use Rattle.topos_model.specs.topologies.LeastCovers.{is_among_covers, least}
 use Rattle.topos_model.specs.topologies.TopologyFaults.{listed_sieves, least_twice, stability_fault, intersection_fault, least_twice_fault, topology_fault}
 use Rattle.topos_model.specs.topologies.Sheaves.{element_at, agrees, matching_families, amalgamations, not_one, sheaf_fault}
 use Rattle.topos_model.proofs.ArrowsInto.{In-into, In-into_from}
+use Rattle.natural_maps.proofs.Searches.{none_kept}
 
 -- a test that each member passes keeps the list
 filter_whole : {A : Type 0} (p : A → Bool) (xs : List A) → ((x : A) → In xs x → p x ≡ true) → filter p xs ≡ xs
@@ -26,17 +27,13 @@ filter_whole p [] all = refl
 filter_whole p (x ∷ xs) all = rw (all x (inl refl)) (ap (λ l. x ∷ l) (filter_whole p xs (λ y i. all y (inr i))))
 
 -- a test that none passes keeps none
-filter_none : {A : Type 0} (p : A → Bool) (xs : List A) → ((x : A) → In xs x → p x ≡ false) → filter p xs ≡ []
-filter_none p [] none = refl
-filter_none p (x ∷ xs) none = rw (none x (inl refl)) (filter_none p xs (λ y i. none y (inr i)))
-
 -- and one that exactly one passes keeps that one
 filter_one : (p : ℕ → Bool) (xs : List ℕ) (a : ℕ) → Distinct xs → In xs a → p a ≡ true → ((x : ℕ) → In xs x → p x ≡ true → x ≡ a) → filter p xs ≡ a ∷ []
 filter_one p [] a distinct i passes only = absurd i
 filter_one p (x ∷ xs) a distinct (inl e) passes only =
     let passes_x : p x ≡ true = rw e passes in
     let none : (y : ℕ) → In xs y → p y ≡ false = λ y j. fails y j in
-    rw passes_x (rw (filter_none p xs none) (ap (λ (z : ℕ). z ∷ []) e))
+    rw passes_x (rw (none_kept p xs none) (ap (λ (z : ℕ). z ∷ []) e))
   where
     fails : (y : ℕ) → In xs y → p y ≡ false
     fails y j = elim (cases_Bool (p y)) [ inl t ↦ absurd (distinct.0 (rw (e ∙ sym (only y (inr j) t)) j)) | inr f ↦ f ]

@@ -7,11 +7,8 @@ use Rattle.std.proofs.lemmas.List.Folds.{flat_map-map}
 use Rattle.std.proofs.lemmas.List.Concat.{flat_map_single}
 use Rattle.topos_model.specs.declared.ty.Ty.{Ty}
 use Rattle.topos_model.specs.formulas.Forcing.{World, Assigned, tuples, values}
+use Rattle.natural_maps.proofs.FlatMaps.{joined_joined}
 use Rattle.topos_session.specs.Extensions.{extensions}
-
-flat_map-flat_map : {A B C : Type 0} (g : B → List C) (f : A → List B) (xs : List A) → flat_map g (flat_map f xs) ≡ flat_map (λ x. flat_map g (f x)) xs
-flat_map-flat_map g f [] = refl
-flat_map-flat_map g f (x ∷ xs) = flat_map-append g (f x) (flat_map f xs) ∙ ap (λ l. flat_map g (f x) ++ l) (flat_map-flat_map g f xs)
 
 pub flat_map_same : {A B : Type 0} (f g : A → List B) → ((x : A) → f x ≡ g x) → (xs : List A) → flat_map f xs ≡ flat_map g xs
 flat_map_same f g h [] = refl
@@ -27,7 +24,7 @@ module _ (w : World) (c : ℕ) where
   extended [] Γ = flat_map_single (λ (a : Assigned). a) (tuples w Γ c) ∙ map-none (tuples w Γ c)
   extended (T ∷ rest) Γ =
       flat_map_same _ _ (λ a. sym (flat_map-map (extensions (λ T. values w T c) rest) (λ v. (T, v) ∷ a) (values w T c))) (tuples w Γ c)
-      ∙ sym (flat_map-flat_map (extensions (λ T. values w T c) rest) (λ a. map (λ v. (T, v) ∷ a) (values w T c)) (tuples w Γ c))
+      ∙ sym (joined_joined (extensions (λ T. values w T c) rest) (λ a. map (λ v. (T, v) ∷ a) (values w T c)) (tuples w Γ c))
       ∙ extended rest (T ∷ Γ)
       ∙ ap (λ Δ. tuples w Δ c) (sym (ap (λ l. l ++ Γ) (reverse-append (T ∷ []) rest) ∙ append_assoc (reverse rest) (T ∷ []) Γ))
 
