@@ -1,7 +1,7 @@
 // Natural maps.
-ghost use Rattle.std.specs.Prelude.{◌≡◌, ◌<◌, ℕ, [], None, length, get_or, IfOk, IfErr};
+ghost use Rattle.std.specs.Prelude.{◌≡◌, ◌<◌, ℕ, [], None, length, IfOk, IfErr};
 ghost use Rattle.topos_model.specs.Laws.{IsFunctor};
-ghost use Rattle.topos_model.specs.presheaves.Maps.{apply, component, after_component, after, IsNatural};
+ghost use Rattle.topos_model.specs.presheaves.Maps.{apply, component, after, IsNatural};
 ghost use Rattle.topos_model.specs.presheaves.MapFaults.{listed_map, map_fault, IsMapListing};
 
 use crate::MapFault;
@@ -9,7 +9,7 @@ use crate::components::components;
 use crate::images::entry_fault;
 use crate::naturality::failing_square;
 use fin_category::Cat;
-use presheaf_core::Functor;
+use presheaf_core::{Functor, after_row};
 use std::alloc::Global;
 use std::marker::Model;
 use topos_model::{Copied, NoMemory, RawMap, Row};
@@ -26,18 +26,6 @@ impl Model for NatMap {
     ghost Value = { Components };
 
     ghost view = { λ map. map.rows };
-}
-
-// A function after another, both as lists of numbers.
-fn after_row(alloc: Global, second: &[u32], first: &[u32]) -> Result<Row<u32>, NoMemory>
-    requires { (x : ℕ) → x < length first.now → get_or first.now x 0 < length second.now }
-    ensures { IfOk result (λ row. row ≡ after_component second.now first.now) }
-{
-    let mut row = Row::new(alloc);
-    for x in first {
-        row.push(second[*x as usize])?;
-    }
-    Ok(row)
 }
 
 impl NatMap {

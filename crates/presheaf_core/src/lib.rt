@@ -12,3 +12,4 @@ mod rows;
 pub use fault::FunctorFault;
 pub use functor::Functor;
 pub use laws::presheaf_laws;
+pub use rows::after_row;

@@ -6,6 +6,7 @@ ghost use Rattle.finite_lists.specs.First.{first};
 ghost use Rattle.topos_model.specs.categories.Listed.{entry_at};
 ghost use Rattle.topos_model.specs.categories.Category.{arrows};
 ghost use Rattle.topos_model.specs.Laws.{IsCategory};
+ghost use Rattle.topos_model.specs.presheaves.Maps.{after_component};
 ghost use Rattle.topos_model.specs.categories.Filling.{filled_row, filled_rows};
 ghost use Rattle.topos_model.specs.presheaves.PresheafFaults.{IsPresheafListing};
 ghost use Rattle.presheaf_core.specs.Faults.{IsFound};
@@ -41,10 +42,10 @@ fn row_of(alloc: Global, numbers: &[u32]) -> Result<Row<u32>, NoMemory>
     Ok(row)
 }
 
-// (x.g).h for each x of so many, by the rows of g and of h.
-fn composite_row(alloc: Global, first: &[u32], second: &[u32]) -> Result<Row<u32>, NoMemory>
+/// A function after another, both as lists of numbers.
+pub fn after_row(alloc: Global, second: &[u32], first: &[u32]) -> Result<Row<u32>, NoMemory>
     requires { (x : ℕ) → x < length first.now → get_or first.now x 0 < length second.now }
-    ensures { IfOk result (λ row. row ≡ map (λ x. get_or second.now (get_or first.now x 0) 0) (range_with_len 0 (length first.now))) }
+    ensures { IfOk result (λ row. row ≡ after_component second.now first.now) }
 {
     let mut row = Row::new(alloc);
     for x in first {
@@ -94,7 +95,7 @@ fn composed_row(
         Some((g, h)) => {
             let first = rows[g as usize].as_slice();
             let second = rows[h as usize].as_slice();
-            Ok(composite_row(alloc, first, second)?)
+            Ok(after_row(alloc, second, first)?)
         }
         None => Err(FunctorFault::RestrictionMissing { f }),
     }

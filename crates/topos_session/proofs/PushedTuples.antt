@@ -3,7 +3,6 @@ use Rattle.std.proofs.Common.{◌≡◌, ℕ, ◌+◌, ◌-◌, ◌<◌, ◌≤�
 use Rattle.std.specs.List.{flat_map, range_with_len, list_all}
 use Rattle.std.proofs.lemmas.Bool.{and_parts}
 use Rattle.std.proofs.lemmas.Grind.{flat_map-append}
-use Rattle.std.proofs.lemmas.List.FromFn.{map-range_with_len_more}
 use Rattle.std.proofs.lemmas.List.{get_or_default, map-append, reverse-append, reverse-reverse, take_all}
 use borrow.Author.Tests.{ltb-true}
 use Rattle.std.proofs.lemmas.List.Folds.{flat_map-map}
@@ -26,7 +25,7 @@ use Rattle.topos_session.specs.declared.variable.Variable.{Variable}
 use Rattle.topos_session.specs.Extensions.{extensions}
 use Rattle.topos_session.specs.Variables.{valued, assigned, functor_at, AreFunctors, IsVariable, AreVariables, none, functors_inside, presheaf_world, forced_along, forced_extensions}
 use Rattle.topos_session.proofs.ForcedAlong.{forced_along_identity}
-use Rattle.topos_session.proofs.TupleExtensions.{flat_map_same, map-none, tuples_extended}
+use Rattle.topos_session.proofs.TupleExtensions.{flat_map_same, tuples_extended}
 
 -- one more variable stands innermost
 pub assigned-more : (vs : List Variable) (v : Variable) → assigned (vs ++ v ∷ []) ≡ valued v ∷ assigned vs
