@@ -1,0 +1,4 @@
+pub mod Typings
+pub mod Sorts
+pub mod TermTypings
+pub mod TypingRules
