@@ -8,3 +8,4 @@ pub mod Search
 pub mod Squares
 pub mod Listed
 pub mod Tables
+pub mod Domains

@@ -4,14 +4,17 @@
 mod bounds;
 mod chains;
 mod components;
+mod domains;
 mod fault;
 mod images;
 mod laws;
+mod links;
 mod listing;
 mod made;
 mod map;
 mod naturality;
 mod places;
+mod residues;
 mod room;
 mod squares;
 

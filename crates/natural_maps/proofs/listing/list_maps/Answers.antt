@@ -1,6 +1,7 @@
-use Rattle.std.proofs.Common.{◌≡◌, ◌<◌, ℕ, List, length, get_or, map, ap, ◌∙◌, arith}
+use Rattle.std.proofs.Common.{◌≡◌, ◌<◌, ℕ, List, length, get_or, map, sym, ap, subst, ◌∙◌, arith}
 use Rattle.std.proofs.lemmas.List.{get_or-map, length-map}
 use Rattle.natural_maps.specs.declared.squares.Square.{Square}
+use Rattle.natural_maps.specs.Search.{bounds_of}
 use Rattle.natural_maps.specs.Squares.{later_place, squares_of}
 use Rattle.natural_maps.proofs.PlaceSearch.{are_squares}
 use Rattle.natural_maps.proofs.listing.list_maps.Goals as goal
@@ -15,3 +16,19 @@ of-requires c i within =
     let low : i < length squares = omega (arith, within, ap length places, length-map squares later_place) in
     let at : get_or c.as_slice-3.result.now i 0 ≡ later_place (get_or squares i d) = ap (λ (l : List ℕ). get_or l i 0) places ∙ get_or-map later_place squares i d 0 low in
     omega (arith, at, is.element i d low, is.restricted i d low, c.len-2.ensures, ap length c.in_ok-bounds.ensures)
+
+pub of-requires-2-clause-element : goal.of-requires-2-clause-element
+of-requires-2-clause-element c i d within =
+    let is = are_squares c.args.cat.now c.args.p.now c.args.q.now c.laws.ensures.lawful c.requires.domain c.requires.codomain in
+    let same : c.as_slice-4.result.now ≡ squares_of c.args.cat.now c.args.p.now = c.as_slice-4.ensures ∙ c.in_ok-squares.ensures in
+    let low : (get_or c.as_slice-4.result.now i d).element < length (bounds_of c.args.cat.now c.args.p.now c.args.q.now) =
+    subst (λ (l : List Square). (get_or l i d).element < length (bounds_of c.args.cat.now c.args.p.now c.args.q.now)) (sym same) (is.element i d (omega (arith, within, ap length same))) in
+    omega (arith, low, c.len-3.ensures, ap length c.in_ok-bounds.ensures)
+
+pub of-requires-2-clause-restricted : goal.of-requires-2-clause-restricted
+of-requires-2-clause-restricted c i d within =
+    let is = are_squares c.args.cat.now c.args.p.now c.args.q.now c.laws.ensures.lawful c.requires.domain c.requires.codomain in
+    let same : c.as_slice-4.result.now ≡ squares_of c.args.cat.now c.args.p.now = c.as_slice-4.ensures ∙ c.in_ok-squares.ensures in
+    let low : (get_or c.as_slice-4.result.now i d).restricted < length (bounds_of c.args.cat.now c.args.p.now c.args.q.now) =
+    subst (λ (l : List Square). (get_or l i d).restricted < length (bounds_of c.args.cat.now c.args.p.now c.args.q.now)) (sym same) (is.restricted i d (omega (arith, within, ap length same))) in
+    omega (arith, low, c.len-3.ensures, ap length c.in_ok-bounds.ensures)

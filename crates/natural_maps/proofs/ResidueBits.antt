@@ -1,0 +1,52 @@
+-- Sets of residues modulo 64, as the bits of words.
+use Rattle.std.proofs.Common.{◌≡◌, ℕ, ◌-◌, ◌*◌, ◌/◌, ◌%◌, ◌^◌, ◌<◌, true, eqb, sym, ap, ◌∙◌, arith, bit_and, bit_or}
+use Rattle.std.specs.Int.{bit_at}
+use Rattle.std.proofs.lemmas.Bool.{eqb-true, eq-eqb}
+use Rattle.std.proofs.lemmas.Nat.Bits.{shr_and_one, bit_at_and, bit_at_or, bit_at-lt, bit_at-zero, bit_at_ones, bit_at-pow_same}
+use Rattle.std.proofs.Math.Pow.{pow-lt}
+use Rattle.std.proofs.Math.Nat.{mod-eq_of_lt, mod-lt}
+use Rattle.natural_maps.specs.Domains.{allows}
+
+residue_low : (v : ℕ) → v % 64 < 64
+residue_low v = mod-lt v (omega arith)
+
+bit_of : (mask v : ℕ) → allows mask v ≡ true → bit_at mask (v % 64) ≡ 1
+unfolding allows
+bit_of mask v e = eqb-true _ _ e
+
+of_bit : (mask v : ℕ) → bit_at mask (v % 64) ≡ 1 → allows mask v ≡ true
+unfolding allows
+of_bit mask v e = eq-eqb _ _ e
+
+pub allows_test : (mask v : ℕ) → eqb (bit_and (mask / 2 ^ (v % 64)) 1) 1 ≡ allows mask v
+unfolding allows
+allows_test mask v = ap (λ b. eqb b 1) (shr_and_one mask (v % 64))
+
+pub allows_or_left : (a b v : ℕ) → allows a v ≡ true → allows (bit_or a b) v ≡ true
+allows_or_left a b v e = let h = bit_of a v e in let l = bit_at-lt b (v % 64) in of_bit (bit_or a b) v (omega (arith, bit_at_or a b (v % 64), h, l))
+
+pub allows_or_right : (a b v : ℕ) → allows b v ≡ true → allows (bit_or a b) v ≡ true
+allows_or_right a b v e = let h = bit_of b v e in let l = bit_at-lt a (v % 64) in of_bit (bit_or a b) v (omega (arith, bit_at_or a b (v % 64), h, l))
+
+pub allows_and : (a b v : ℕ) → allows a v ≡ true → allows b v ≡ true → allows (bit_and a b) v ≡ true
+allows_and a b v e f = let h = bit_of a v e in let g = bit_of b v f in of_bit (bit_and a b) v (omega (arith, bit_at_and a b (v % 64), h, g))
+
+pub allows_none : (v : ℕ) → allows 0 v ≡ true → ⊥
+allows_none v e = let h = bit_of 0 v e in omega (arith, bit_at-zero (v % 64), h)
+
+pub allows_one : (v : ℕ) → allows (1 * 2 ^ (v % 64) % 18446744073709551616) v ≡ true
+allows_one v =
+    let k = v % 64 in
+    let small : 1 * 2 ^ k < 18446744073709551616 = omega (arith, pow-lt {i = k} {j = 64} (residue_low v)) in
+    let same : 2 ^ k ≡ 1 * 2 ^ k % 18446744073709551616 = (let one : 2 ^ k ≡ 1 * 2 ^ k = omega arith in one) ∙ sym (mod-eq_of_lt small) in
+    of_bit _ v (ap (λ m. bit_at m k) (sym same) ∙ bit_at-pow_same k)
+
+pub allows_below : (bound v : ℕ) → bound < 64 → v < bound → allows (1 * 2 ^ bound % 18446744073709551616 - 1) v ≡ true
+allows_below bound v low below =
+    let small : 1 * 2 ^ bound < 18446744073709551616 = omega (arith, pow-lt {i = bound} {j = 64} low) in
+    let same : 2 ^ bound ≡ 1 * 2 ^ bound % 18446744073709551616 = (let one : 2 ^ bound ≡ 1 * 2 ^ bound = omega arith in one) ∙ sym (mod-eq_of_lt small) in
+    let at : v % 64 ≡ v = mod-eq_of_lt (omega arith) in
+    of_bit _ v (ap (λ m. bit_at (m - 1) (v % 64)) (sym same) ∙ bit_at_ones bound (v % 64) (omega (arith, at)))
+
+pub allows_all : (v : ℕ) → allows 18446744073709551615 v ≡ true
+allows_all v = of_bit 18446744073709551615 v (bit_at_ones 64 (v % 64) (residue_low v))
