@@ -28,3 +28,4 @@ pub mod TableListings
 pub mod ResidueBits
 pub mod Narrowing
 pub mod GuardedSearch
+pub mod FreeCounts

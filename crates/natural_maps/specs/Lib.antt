@@ -9,3 +9,4 @@ pub mod Squares
 pub mod Listed
 pub mod Tables
 pub mod Domains
+pub mod FreePlaces

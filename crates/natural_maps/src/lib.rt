@@ -6,6 +6,7 @@ mod chains;
 mod components;
 mod domains;
 mod fault;
+mod free_places;
 mod images;
 mod laws;
 mod links;

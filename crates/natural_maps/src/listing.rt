@@ -13,6 +13,7 @@ use crate::NatMap;
 use crate::bounds::bounds;
 use crate::chains::{Chains, no_heads};
 use crate::domains::Domains;
+use crate::free_places::search_room;
 use crate::links::Links;
 use crate::places::offsets;
 use crate::squares::{Square, all_fit, later_places, squares};
@@ -194,12 +195,13 @@ pub fn list_maps(
     let places = later_places(alloc, squares.as_slice())?;
     let chains = Chains::of(alloc, bounds.len(), places.as_slice())?;
     let links = Links::of(alloc, bounds.len(), squares.as_slice())?;
+    let search_room = search_room(squares.as_slice(), &links, bounds.as_slice(), room);
     search(
         alloc,
         cat,
         p,
         q,
-        room,
+        search_room,
         bounds.as_slice(),
         squares.as_slice(),
         &chains,
