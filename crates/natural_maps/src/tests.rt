@@ -604,12 +604,14 @@ fn colourings(
     Ok(None)
 }
 
-/// The complete graph on four vertices and Grötzsch's graph, which has no triangle, need four colours. Nine vertices without an edge have 3^9 colourings.
+/// The complete graph on four vertices and Grötzsch's graph, which has no triangle, need four colours, though the 36 vertices without an edge beside the first one have 3^36 colourings.
+/// Those of a path of three vertices are over the room at the first one. Nine vertices without an edge have 3^9 colourings.
 #[test]
 fn colourings_of_graphs(rt: HostRuntime) -> Result<(), Fail> {
     let alloc = rt.alloc();
-    let complete = colourings(alloc, 4, &[0, 0, 0, 1, 1, 2], &[1, 2, 3, 2, 3, 3], 0)?;
+    let complete = colourings(alloc, 40, &[0, 0, 0, 1, 1, 2], &[1, 2, 3, 2, 3, 3], 19_683)?;
     assert_eq!(rt; complete, Some(0));
+    assert_eq!(rt; colourings(alloc, 40, &[0, 1], &[1, 2], 19_683)?, None);
     let sources = [0, 1, 2, 3, 4, 0, 1, 2, 3, 4, 0, 1, 2, 3, 4, 5, 6, 7, 8, 9];
     let targets = [
         1, 2, 3, 4, 0, 6, 7, 8, 9, 5, 9, 5, 6, 7, 8, 10, 10, 10, 10, 10,
