@@ -1,5 +1,5 @@
 -- Sets that are narrowed: what is still allowed, and that the changes can be taken back.
-use Rattle.std.proofs.Common.{◌≡◌, ℕ, ◌+◌, ◌<◌, ◌≤◌, zero, suc, inl, inr, Bool, true, false, List, [], ◌∷◌, ◌++◌, length, get_or, set, take, drop, All, refl, sym, ap, subst, ◌∙◌, arith, bit_and, length-set, get_or-set_same, get_or-set_other, append_assoc}
+use Rattle.std.proofs.Common.{◌≡◌, ℕ, ◌+◌, ◌%◌, ◌<◌, ◌≤◌, zero, suc, inl, inr, Bool, true, false, List, [], ◌∷◌, ◌++◌, length, get_or, set, take, drop, All, refl, sym, ap, subst, ◌∙◌, arith, bit_and, length-set, get_or-set_same, get_or-set_other, append_assoc}
 use Rattle.std.proofs.lemmas.Bool.{cases_eq}
 use Rattle.std.proofs.lemmas.List.{append-nil, drop-append-le, set-set, set-get_or, take-append-drop, take-append-le, take-take, take_all, length-take-le, drop_more, drop_all, get_or-take, get_or_default, get_or-append-add, length-append}
 use Rattle.std.proofs.lemmas.List.Elements.{All-append}
@@ -111,15 +111,12 @@ module _ (Q : Presheaf) (squares : List Square) (s : ℕ) (d : Square) (low : s 
       ap (allows allowed) (fit.fit s d low) ∙ ap (λ (r : List ℕ). allows allowed (get_or r w 0)) (sym is)
       ∙ image w (omega (arith, fit.within s d low, ap length is)) (ap (λ m. allows m w) (read ∙ get_or_default masks place mask 0 inside) ∙ ap (allows (get_or masks place 0)) here ∙ all place inside)
 
-  -- and the preimage of that at the restriction's place the number at the element's
-  pub preimage_allowed : (masks row : List ℕ) (place mask allowed : ℕ) → (get_or squares s d).restricted ≡ place → place < length masks → mask ≡ get_or masks place mask → row ≡ along →
-      ((w : ℕ) → w < length row → allows mask (get_or row w 0) ≡ true → allows allowed w ≡ true) →
-      (values : List ℕ) → AllFit Q squares values → AllAllowed masks values → allows allowed (get_or values (get_or squares s d).element 0) ≡ true
-  preimage_allowed masks row place mask allowed key inside read is preimage values fit all =
-      let w = get_or values (get_or squares s d).element 0 in
-      preimage w (omega (arith, fit.within s d low, ap length is))
-      (ap (λ m. allows m (get_or row w 0)) (read ∙ get_or_default masks place mask 0 inside)
-      ∙ ap (λ (r : List ℕ). allows (get_or masks place 0) (get_or r w 0)) is ∙ ap (allows (get_or masks place 0)) (sym (fit.fit s d low) ∙ ap (λ p. get_or values p 0) key) ∙ all place inside)
+  -- and the preimage of the residue at the restriction's place the number at the element's
+  pub preimage_allowed : (place residue allowed : ℕ) → (get_or squares s d).restricted ≡ place → ((w : ℕ) → w < length along → get_or along w 0 % 64 ≡ residue → allows allowed w ≡ true) →
+      (values : List ℕ) → AllFit Q squares values → get_or values place 0 % 64 ≡ residue → allows allowed (get_or values (get_or squares s d).element 0) ≡ true
+  preimage_allowed place residue allowed key preimage values fit is =
+      preimage (get_or values (get_or squares s d).element 0) (fit.within s d low)
+      (ap (λ n. n % 64) (sym (fit.fit s d low)) ∙ ap (λ p. get_or values p 0 % 64) key ∙ is)
 
 -- taking changes back from a level and then from a lower one is the same as from the lower one
 pub rewound_level : (d e : Domains) (level lower : ℕ) → e.trail.items ≡ take level d.trail.items → e.masks.items ≡ at_level d level → level ≤ length d.trail.items → lower ≤ level → at_level e lower ≡ at_level d lower
@@ -167,3 +164,11 @@ whole_level d e level whole high trail masks k c low =
     let at : get_or e.trail.items k c ≡ get_or d.trail.items k c = ap (λ (l : List Change). get_or l k c) trail ∙ get_or-take level d.trail.items k c (omega (arith, m, low)) in
     let p : (get_or e.trail.items k c).place ≡ (get_or d.trail.items k c).place = ap (λ (x : Change). x.place) at in
     omega (arith, n, p, whole k c (omega (arith, m, low, high)))
+
+-- the residue of a number at a place that has only this one
+pub residue_of : (d : Domains) (place : ℕ) (c : Change) (index residue mask : ℕ) → IsWhole d → index < length d.trail.items → c ≡ get_or d.trail.items index c → place ≡ c.place → mask ≡ get_or d.masks.items place mask → ((v : ℕ) → allows mask v ≡ true → v % 64 ≡ residue) →
+    (values : List ℕ) → AllAllowed d.masks.items values → get_or values place 0 % 64 ≡ residue
+residue_of d place c index residue mask whole low is here read only values all =
+    let p : c.place ≡ (get_or d.trail.items index c).place = ap (λ (x : Change). x.place) is in
+    let inside : place < length d.masks.items = omega (arith, here, p, whole index c low) in
+    only (get_or values place 0) (ap (λ m. allows m (get_or values place 0)) (read ∙ get_or_default d.masks.items place mask 0 inside) ∙ all place inside)

@@ -1,8 +1,8 @@
 -- Sets of residues modulo 64, as the bits of words.
-use Rattle.std.proofs.Common.{◌≡◌, ℕ, ◌-◌, ◌*◌, ◌/◌, ◌%◌, ◌^◌, ◌<◌, true, eqb, sym, ap, ◌∙◌, arith, bit_and, bit_or}
+use Rattle.std.proofs.Common.{◌≡◌, ℕ, ◌-◌, ◌*◌, ◌/◌, ◌%◌, ◌^◌, ◌<◌, inl, inr, true, eqb, sym, ap, ◌∙◌, arith, bit_and, bit_or}
 use Rattle.std.specs.Int.{bit_at}
-use Rattle.std.proofs.lemmas.Bool.{eqb-true, eq-eqb}
-use Rattle.std.proofs.lemmas.Nat.Bits.{shr_and_one, bit_at_and, bit_at_or, bit_at-lt, bit_at-zero, bit_at_ones, bit_at-pow_same}
+use Rattle.std.proofs.lemmas.Bool.{eqb-true, eq-eqb, cases_eq}
+use Rattle.std.proofs.lemmas.Nat.Bits.{shr_and_one, bit_at_and, bit_at_or, bit_at-lt, bit_at-zero, bit_at_ones, bit_at-pow_same, bit_at-pow_other}
 use Rattle.std.proofs.Math.Pow.{pow-lt}
 use Rattle.std.proofs.Math.Nat.{mod-eq_of_lt, mod-lt}
 use Rattle.natural_maps.specs.Domains.{allows}
@@ -50,3 +50,14 @@ allows_below bound v low below =
 
 pub allows_all : (v : ℕ) → allows 18446744073709551615 v ≡ true
 allows_all v = of_bit 18446744073709551615 v (bit_at_ones 64 (v % 64) (residue_low v))
+
+-- the word of one residue has no other
+pub sole_residue : (mask residue v : ℕ) → residue < 64 → mask ≡ 1 * 2 ^ residue % 18446744073709551616 → allows mask v ≡ true → v % 64 ≡ residue
+sole_residue mask residue v low is e = elim (cases_eq (v % 64) residue) [
+  | inl same ↦ same
+  | inr other ↦
+      (let small : 1 * 2 ^ residue < 18446744073709551616 = omega (arith, pow-lt {i = residue} {j = 64} low) in
+      let same : mask ≡ 2 ^ residue = is ∙ mod-eq_of_lt small ∙ (let one : 1 * 2 ^ residue ≡ 2 ^ residue = omega arith in one) in
+      let none = ap (λ m. bit_at m (v % 64)) same ∙ bit_at-pow_other residue (v % 64) other in
+      absurd (omega (arith, none, bit_of mask v e)))
+]

@@ -1,7 +1,8 @@
 -- The numbers that may still stand at each place, as sets of residues, and how changes of them are taken back.
-use Rattle.std.specs.Prelude.{◌≡◌, ℕ, ◌%◌, ◌<◌, Bool, true, eqb, List, [], ◌∷◌, ◌++◌, map, length, get_or, drop, slice_set, All}
+use Rattle.std.specs.Prelude.{◌≡◌, ℕ, ◌+◌, ◌*◌, ◌%◌, ◌<◌, Bool, true, eqb, List, [], ◌∷◌, ◌++◌, map, length, get_or, drop, slice_set, All}
 use Rattle.std.specs.Int.{bit_at}
 use Rattle.topos_model.specs.types.Types.{Presheaf}
+use Rattle.topos_model.specs.Laws.{act}
 use Rattle.natural_maps.specs.declared.squares.Square.{Square}
 use Rattle.natural_maps.specs.declared.domains.Change.{Change}
 use Rattle.natural_maps.specs.declared.domains.Domains.{Domains}
@@ -51,3 +52,8 @@ pub record AllFit (Q : Presheaf) (squares : List Square) (values : List ℕ) : T
 pub record AreLinks (places : ℕ) (squares : List Square) (links : Links) : Type 0 where
   pub below : AreChains places (map element_of squares) links.below.heads.items links.below.links
   pub above : AreChains places (map restricted_of squares) links.above.heads.items links.above.links
+
+-- for each arrow and each residue a set that has the numbers which the restriction takes to numbers with the residue
+pub record ArePreimages (Q : Presheaf) (masks : List ℕ) : Type 0 where
+  pub places : length masks ≡ length Q.along * 64
+  pub each : (f w : ℕ) → f < length Q.along → w < length (get_or Q.along f []) → allows (get_or masks (f * 64 + act Q f w % 64) 0) w ≡ true

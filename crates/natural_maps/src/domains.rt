@@ -1,11 +1,11 @@
 // The numbers that may still stand at each place: what the numbers set so far leave, and the changes, so that they can be taken back.
-ghost use Rattle.std.specs.Prelude.{◌≡◌, ◌<◌, ◌≤◌, ℕ, List, true, [], map, length, get_or, take, IfOk};
+ghost use Rattle.std.specs.Prelude.{◌≡◌, ◌<◌, ◌≤◌, ◌%◌, ℕ, List, true, [], map, length, get_or, take, IfOk};
 ghost use Rattle.topos_model.specs.types.Types.{Presheaf};
 ghost use Rattle.natural_maps.specs.Squares.{AreSquares};
-ghost use Rattle.natural_maps.specs.Domains.{allows, AllFit, AreLinks, IsWhole, Narrows, at_level};
+ghost use Rattle.natural_maps.specs.Domains.{allows, AllFit, AreLinks, ArePreimages, IsWhole, Narrows, at_level};
 
 use crate::links::Links;
-use crate::residues::{below, image, is_sole, one, preimage};
+use crate::residues::{below, image, is_sole, one, sole};
 use crate::squares::Square;
 use presheaf_core::Functor;
 use std::alloc::Global;
@@ -112,38 +112,44 @@ impl Domains {
         'chain: while 0 < next {
             let index = next - 1;
             let square = squares[index];
-            let allowed = image(q.row(square.arrow), self.masks[place]);
-            if !self.narrow(square.restricted, allowed)? {
-                return Ok(false);
+            if !is_sole(self.masks[square.restricted]) {
+                let allowed = image(q.row(square.arrow), self.masks[place]);
+                if !self.narrow(square.restricted, allowed)? {
+                    return Ok(false);
+                }
             }
             next = *links.below.links.get(index);
         }
         Ok(true)
     }
 
-    // Narrows the places of the elements whose restriction is at a place, and those of their restrictions.
+    // Narrows the places of the elements whose restriction is at a place that has one residue left, and those of their restrictions.
     fn narrow_above(
         &mut self,
         q: &Functor,
         squares: &[Square],
         links: &Links,
         place: usize,
+        residue: usize,
     ) -> Result<bool, NoMemory>
         requires whole { IsWhole self.old }
         requires place { place < length self.old.masks.items }
         requires squares { AreSquares q.now (length self.old.masks.items) squares.now }
         requires links { AreLinks (length self.old.masks.items) squares.now links.now }
-        ensures { IfOk result (Narrows (AllFit q.now squares.now) self.old self.new) }
+        requires preimages { ArePreimages q.now links.now.preimages.masks.items }
+        requires residue { residue < 64 }
+        ensures { IfOk result (Narrows (λ values. AllFit q.now squares.now values × (get_or values place 0 % 64 ≡ residue)) self.old self.new) }
     {
         let mut next = links.above.heads[place];
         'chain: while 0 < next {
             let index = next - 1;
             let square = squares[index];
-            if !is_sole(self.masks[square.element]) {
-                let allowed = preimage(q.row(square.arrow), self.masks[place]);
-                if !self.narrow(square.element, allowed)? {
-                    return Ok(false);
-                }
+            let changes = self.trail.len();
+            let allowed = links.preimages.at(q, square.arrow, residue);
+            if !self.narrow(square.element, allowed)? {
+                return Ok(false);
+            }
+            if changes < self.trail.len() {
                 if !self.narrow_below(q, squares, links, square.element)? {
                     return Ok(false);
                 }
@@ -164,6 +170,7 @@ impl Domains {
         requires whole { IsWhole self.old }
         requires squares { AreSquares q.now (length self.old.masks.items) squares.now }
         requires links { AreLinks (length self.old.masks.items) squares.now links.now }
+        requires preimages { ArePreimages q.now links.now.preimages.masks.items }
         ensures { IfOk result (Narrows (AllFit q.now squares.now) self.old self.new) }
     {
         'changes: for index in start..usize::MAX {
@@ -171,11 +178,11 @@ impl Domains {
                 return Ok(true);
             }
             let place = self.trail[index].place;
-            if is_sole(self.masks[place]) {
+            if let Some(residue) = sole(self.masks[place]) {
                 if !self.narrow_below(q, squares, links, place)? {
                     return Ok(false);
                 }
-                if !self.narrow_above(q, squares, links, place)? {
+                if !self.narrow_above(q, squares, links, place, residue)? {
                     return Ok(false);
                 }
             }
@@ -196,6 +203,7 @@ impl Domains {
         requires place { place < length self.old.masks.items }
         requires squares { AreSquares q.now (length self.old.masks.items) squares.now }
         requires links { AreLinks (length self.old.masks.items) squares.now links.now }
+        requires preimages { ArePreimages q.now links.now.preimages.masks.items }
         ensures { IfOk result (Narrows (λ values. AllFit q.now squares.now values × (get_or values place 0 ≡ number)) self.old self.new) }
     {
         let start = self.trail.len();

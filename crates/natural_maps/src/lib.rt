@@ -15,6 +15,7 @@ mod made;
 mod map;
 mod naturality;
 mod places;
+mod preimages;
 mod residues;
 mod room;
 mod squares;

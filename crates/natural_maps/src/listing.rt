@@ -6,7 +6,7 @@ ghost use Rattle.natural_maps.specs.Places.{offset, cut};
 ghost use Rattle.natural_maps.specs.Room.{max_room};
 ghost use Rattle.natural_maps.specs.Search.{bounds_of};
 ghost use Rattle.natural_maps.specs.Squares.{squares_of, later_place, AreChains};
-ghost use Rattle.natural_maps.specs.Domains.{AreLinks};
+ghost use Rattle.natural_maps.specs.Domains.{AreLinks, ArePreimages};
 ghost use Rattle.natural_maps.specs.Listed.{IfAll, IfOver};
 
 use crate::NatMap;
@@ -105,6 +105,7 @@ fn search(
     requires squares { squares.now ≡ squares_of cat.now p.now }
     requires chains { AreChains (length bounds.now) (map later_place squares.now) chains.now.heads.items chains.now.links }
     requires links { AreLinks (length bounds.now) squares.now links.now }
+    requires preimages { ArePreimages q.now links.now.preimages.masks.items }
     ensures all { IfOk result (λ listing. IfAll listing (λ found. found ≡ maps cat.now p.now q.now)) }
     ensures within { IfOk result (λ listing. IfAll listing (λ found. length found ≤ room)) }
     ensures over { IfOk result (λ listing. IfOver listing (room < length (maps cat.now p.now q.now))) }
@@ -194,7 +195,7 @@ pub fn list_maps(
     let squares = squares(alloc, cat, p, starts.as_slice())?;
     let places = later_places(alloc, squares.as_slice())?;
     let chains = Chains::of(alloc, bounds.len(), places.as_slice())?;
-    let links = Links::of(alloc, bounds.len(), squares.as_slice())?;
+    let links = Links::of(alloc, cat, q, bounds.len(), squares.as_slice())?;
     let search_room = search_room(squares.as_slice(), &links, bounds.as_slice(), room);
     search(
         alloc,

@@ -1,5 +1,5 @@
 // Sets of numbers as words: a bit for each residue modulo 64, so that numbers below 64 are told apart.
-ghost use Rattle.std.specs.Prelude.{◌≡◌, ◌<◌, ℕ, true, length, get_or};
+ghost use Rattle.std.specs.Prelude.{◌≡◌, ◌<◌, ◌%◌, ℕ, true, length, get_or, IfSome};
 ghost use Rattle.natural_maps.specs.Domains.{allows};
 
 // The longest row of a restriction that is gone through.
@@ -20,7 +20,7 @@ fn has(mask: u64, v: usize) -> bool
 }
 
 // A set with one more number.
-fn with(mask: u64, v: usize) -> u64
+pub(crate) fn with(mask: u64, v: usize) -> u64
     ensures new { allows result v ≡ true }
     ensures old { (w : ℕ) → allows mask w ≡ true → allows result w ≡ true }
 {
@@ -59,18 +59,14 @@ pub(crate) fn image(row: &[u32], mask: u64) -> u64
     image
 }
 
-// The numbers that a row takes into a set; all, where the row is long.
-pub(crate) fn preimage(row: &[u32], mask: u64) -> u64
-    ensures { (w : ℕ) → w < length row.now → allows mask (get_or row.now w 0) ≡ true → allows result w ≡ true }
+// The only residue of a set that has one.
+pub(crate) fn sole(mask: u64) -> Option<usize>
+    ensures { IfSome result (λ residue. (residue < 64) × ((v : ℕ) → allows mask v ≡ true → v % 64 ≡ residue)) }
 {
-    if LONGEST_ROW < row.len() {
-        return u64::MAX;
+    let residue = mask.trailing_zeros();
+    if residue < 64 && mask == 1 << residue {
+        Some(residue as usize)
+    } else {
+        None
     }
-    let mut preimage = 0;
-    for w in 0..row.len() {
-        if has(mask, row[w] as usize) {
-            preimage = with(preimage, w);
-        }
-    }
-    preimage
 }

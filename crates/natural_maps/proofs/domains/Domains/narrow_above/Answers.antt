@@ -1,4 +1,4 @@
-use Rattle.std.proofs.Common.{◌≡◌, ◌-◌, ◌<◌, sym, subst, true, false, length, get_or, arith}
+use Rattle.std.proofs.Common.{List, ℕ, ◌%◌, ◌≡◌, ◌-◌, ◌<◌, sym, subst, true, false, length, get_or, arith}
 use Rattle.std.proofs.lemmas.Option.{get_or_from_slice_get}
 use Rattle.natural_maps.specs.declared.squares.Square.{Square}
 use Rattle.natural_maps.specs.Squares.{restricted_of}
@@ -6,36 +6,36 @@ use Rattle.natural_maps.specs.Domains.{allows, AllFit, Narrows}
 use Rattle.natural_maps.proofs.SquareChains.{chain_first, chain_next, links_within}
 use Rattle.natural_maps.proofs.Narrowing.{narrows_refl, narrows_then, preimage_allowed}
 use Rattle.natural_maps.proofs.domains.Domains.narrow_above.Goals as goal
-use Rattle.natural_maps.proofs.domains.Domains.narrow_above.Goals.{then-not-is_sole+in_ok-narrow+else-not-branch+in_ok-narrow_below+else-not-branch-2, else-not-is_sole}
+use Rattle.natural_maps.proofs.domains.Domains.narrow_above.Goals.{then-changes-len+in_ok-narrow_below+else-not-branch-2, else-changes-len}
 
 abbrev none : Square
 none = record { arrow = 0; element = 0; restricted = 0 }
 
 pub chain-init : goal.chain-init
 chain-init c =
+    let both : List ℕ → Type 0 = λ values. AllFit c.args.q.now c.args.squares.now values × (get_or values c.args.place 0 % 64 ≡ c.args.residue) in
     let is = chain_first restricted_of c.args.squares.now (length c.args.self.now.masks.items) c.args.links.now.above.heads.items c.args.links.now.above.links c.requires.links.above c.args.place c.index-next.result.now c.index-next.result.now c.requires.place c.index-next.ensures in
-    record { low = is.low; key = is.key_of; narrows = narrows_refl (AllFit c.args.q.now c.args.squares.now) c.args.self.now c.requires.whole }
+    record { low = is.low; key = is.key_of; narrows = narrows_refl both c.args.self.now c.requires.whole }
 
 pub returns-then-not-branch : goal.returns-then-not-branch
 returns-then-not-branch c =
     let squares = c.args.squares.now in
+    let both : List ℕ → Type 0 = λ values. AllFit c.args.q.now squares values × (get_or values c.args.place 0 % 64 ≡ c.args.residue) in
     let i = c.chain.next - 1 in
-    narrows_then (AllFit c.args.q.now squares) (λ values. allows c.preimage-allowed.result (get_or values (get_or squares i none).element 0) ≡ true) c.args.self.now c.chain.self c.narrow.new.self c.in_ok-narrow.field-0 false c.chain.invariant.narrows c.in_ok-narrow.ensures
-    (preimage_allowed c.args.q.now squares i none (omega (arith, c.chain.invariant.low)) c.chain.self.masks.items c.row.result.now c.args.place c.index-then-not-is_sole.result.now c.preimage-allowed.result (c.chain.invariant.key i none (omega arith))
-    (omega (arith, c.requires.place, c.chain.invariant.narrows.extends.places)) c.index-then-not-is_sole.ensures c.row.ensures c.preimage-allowed.ensures)
+    narrows_then both (λ values. allows c.at-allowed.result (get_or values (get_or squares i none).element 0) ≡ true) c.args.self.now c.chain.self c.narrow.new.self c.in_ok-narrow.field-0 false c.chain.invariant.narrows c.in_ok-narrow.ensures
+    (λ values good all. preimage_allowed c.args.q.now squares i none (omega (arith, c.chain.invariant.low)) c.args.place c.args.residue c.at-allowed.result (c.chain.invariant.key i none (omega arith)) c.at-allowed.ensures values good.0 good.1)
     c.if-not-branch.true
 
 pub returns-then-not-branch-2 : goal.returns-then-not-branch-2
 returns-then-not-branch-2 c =
     let squares = c.args.squares.now in
-    let fit = AllFit c.args.q.now squares in
+    let both : List ℕ → Type 0 = λ values. AllFit c.args.q.now squares values × (get_or values c.args.place 0 % 64 ≡ c.args.residue) in
     let i = c.chain.next - 1 in
-    narrows_then fit fit c.args.self.now c.narrow.new.self c.narrow_below.new.self c.in_ok-narrow_below.field-0 false
-    (narrows_then fit (λ values. allows c.preimage-allowed.result (get_or values (get_or squares i none).element 0) ≡ true) c.args.self.now c.chain.self c.narrow.new.self c.in_ok-narrow.field-0 true c.chain.invariant.narrows c.in_ok-narrow.ensures
-    (preimage_allowed c.args.q.now squares i none (omega (arith, c.chain.invariant.low)) c.chain.self.masks.items c.row.result.now c.args.place c.index-then-not-is_sole.result.now c.preimage-allowed.result (c.chain.invariant.key i none (omega arith))
-    (omega (arith, c.requires.place, c.chain.invariant.narrows.extends.places)) c.index-then-not-is_sole.ensures c.row.ensures c.preimage-allowed.ensures)
+    narrows_then both (AllFit c.args.q.now squares) c.args.self.now c.narrow.new.self c.narrow_below.new.self c.in_ok-narrow_below.field-0 false
+    (narrows_then both (λ values. allows c.at-allowed.result (get_or values (get_or squares i none).element 0) ≡ true) c.args.self.now c.chain.self c.narrow.new.self c.in_ok-narrow.field-0 true c.chain.invariant.narrows c.in_ok-narrow.ensures
+    (λ values good all. preimage_allowed c.args.q.now squares i none (omega (arith, c.chain.invariant.low)) c.args.place c.args.residue c.at-allowed.result (c.chain.invariant.key i none (omega arith)) c.at-allowed.ensures values good.0 good.1)
     c.if-not-branch.false)
-    c.in_ok-narrow_below.ensures (λ values good all. good) c.if-not-branch-2.true
+    c.in_ok-narrow_below.ensures (λ values good all. good.0) c.if-not-branch-2.true
 
 pub get-next-requires : goal.get-next-requires
 get-next-requires c =
@@ -52,25 +52,23 @@ chain-smaller c =
 pub chain-preserved : goal.chain-preserved
 chain-preserved c =
     let squares = c.args.squares.now in
-    let fit = AllFit c.args.q.now squares in
+    let both : List ℕ → Type 0 = λ values. AllFit c.args.q.now squares values × (get_or values c.args.place 0 % 64 ≡ c.args.residue) in
     let i = c.chain.next - 1 in
     let low : i < length squares = omega (arith, c.chain.invariant.low) in
-    let key = c.chain.invariant.key i none (omega arith) in
     let read : c.get-next.result.now ≡ get_or c.args.links.now.above.links i 0 = sym (get_or_from_slice_get c.args.links.now.above.links i c.get-next.result.now 0 c.get-next.ensures) in
-    let is = chain_next restricted_of squares (length c.args.self.now.masks.items) c.args.links.now.above.heads.items c.args.links.now.above.links c.requires.links.above c.args.place i c.get-next.result.now 0 none low key read in
+    let is = chain_next restricted_of squares (length c.args.self.now.masks.items) c.args.links.now.above.heads.items c.args.links.now.above.links c.requires.links.above c.args.place i c.get-next.result.now 0 none low (c.chain.invariant.key i none (omega arith)) read in
+    let narrowed : Narrows both c.args.self.now c.narrow.new.self true =
+    narrows_then both (λ values. allows c.at-allowed.result (get_or values (get_or squares i none).element 0) ≡ true) c.args.self.now c.chain.self c.narrow.new.self c.in_ok-narrow.field-0 true c.chain.invariant.narrows c.in_ok-narrow.ensures
+    (λ values good all. preimage_allowed c.args.q.now squares i none (omega (arith, c.chain.invariant.low)) c.args.place c.args.residue c.at-allowed.result (c.chain.invariant.key i none (omega arith)) c.at-allowed.ensures values good.0 good.1)
+    c.if-not-branch.false in
     record {
       low = omega (arith, is.low);
       key = is.key_of;
       narrows =
-          elim c.if-not-is_sole.branch [
-            | then-not-is_sole+in_ok-narrow+else-not-branch+in_ok-narrow_below+else-not-branch-2 w ↦
-                subst (λ d. Narrows fit c.args.self.now d true) (sym w.self-is)
-                (narrows_then fit fit c.args.self.now w.narrow.new.self w.narrow_below.new.self w.in_ok-narrow_below.field-0 true
-                (narrows_then fit (λ values. allows w.preimage-allowed.result (get_or values (get_or squares i none).element 0) ≡ true) c.args.self.now c.chain.self w.narrow.new.self w.in_ok-narrow.field-0 true c.chain.invariant.narrows w.in_ok-narrow.ensures
-                (preimage_allowed c.args.q.now squares i none low c.chain.self.masks.items w.row.result.now c.args.place w.index-then-not-is_sole.result.now w.preimage-allowed.result key
-                (omega (arith, c.requires.place, c.chain.invariant.narrows.extends.places)) w.index-then-not-is_sole.ensures w.row.ensures w.preimage-allowed.ensures)
-                w.if-not-branch.false)
-                w.in_ok-narrow_below.ensures (λ values good all. good) w.if-not-branch-2.false)
-            | else-not-is_sole w ↦ subst (λ d. Narrows fit c.args.self.now d true) (sym w.self-is) c.chain.invariant.narrows
+          elim c.if-changes-len.branch [
+            | then-changes-len+in_ok-narrow_below+else-not-branch-2 w ↦
+                subst (λ d. Narrows both c.args.self.now d true) (sym w.self-is)
+                (narrows_then both (AllFit c.args.q.now squares) c.args.self.now c.narrow.new.self w.narrow_below.new.self w.in_ok-narrow_below.field-0 true narrowed w.in_ok-narrow_below.ensures (λ values good all. good.0) w.if-not-branch-2.false)
+            | else-changes-len w ↦ subst (λ d. Narrows both c.args.self.now d true) (sym w.self-is) narrowed
           ];
     }

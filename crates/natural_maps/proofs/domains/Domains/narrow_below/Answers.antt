@@ -1,11 +1,12 @@
-use Rattle.std.proofs.Common.{◌≡◌, ◌-◌, ◌<◌, sym, true, false, length, get_or, arith}
+use Rattle.std.proofs.Common.{◌≡◌, ◌-◌, ◌<◌, sym, subst, true, false, length, get_or, arith}
 use Rattle.std.proofs.lemmas.Option.{get_or_from_slice_get}
 use Rattle.natural_maps.specs.declared.squares.Square.{Square}
 use Rattle.natural_maps.specs.Squares.{element_of}
-use Rattle.natural_maps.specs.Domains.{allows, AllFit}
+use Rattle.natural_maps.specs.Domains.{allows, AllFit, Narrows}
 use Rattle.natural_maps.proofs.SquareChains.{chain_first, chain_next, links_within}
 use Rattle.natural_maps.proofs.Narrowing.{narrows_refl, narrows_then, image_allowed}
 use Rattle.natural_maps.proofs.domains.Domains.narrow_below.Goals as goal
+use Rattle.natural_maps.proofs.domains.Domains.narrow_below.Goals.{then-not-is_sole+in_ok-narrow+else-not-branch, else-not-is_sole}
 
 abbrev none : Square
 none = record { arrow = 0; element = 0; restricted = 0 }
@@ -20,8 +21,8 @@ returns-then-not-branch c =
     let squares = c.args.squares.now in
     let i = c.chain.next - 1 in
     narrows_then (AllFit c.args.q.now squares) (λ values. allows c.image-allowed.result (get_or values (get_or squares i none).restricted 0) ≡ true) c.args.self.now c.chain.self c.narrow.new.self c.in_ok-narrow.field-0 false c.chain.invariant.narrows c.in_ok-narrow.ensures
-    (image_allowed c.args.q.now squares i none (omega (arith, c.chain.invariant.low)) c.chain.self.masks.items c.row.result.now c.args.place c.index.result.now c.image-allowed.result (c.chain.invariant.key i none (omega arith))
-    (omega (arith, c.requires.place, c.chain.invariant.narrows.extends.places)) c.index.ensures c.row.ensures c.image-allowed.ensures)
+    (image_allowed c.args.q.now squares i none (omega (arith, c.chain.invariant.low)) c.chain.self.masks.items c.row.result.now c.args.place c.index-then-not-is_sole.result.now c.image-allowed.result (c.chain.invariant.key i none (omega arith))
+    (omega (arith, c.requires.place, c.chain.invariant.narrows.extends.places)) c.index-then-not-is_sole.ensures c.row.ensures c.image-allowed.ensures)
     c.if-not-branch.true
 
 pub get-next-requires : goal.get-next-requires
@@ -39,6 +40,7 @@ chain-smaller c =
 pub chain-preserved : goal.chain-preserved
 chain-preserved c =
     let squares = c.args.squares.now in
+    let fit = AllFit c.args.q.now squares in
     let i = c.chain.next - 1 in
     let low : i < length squares = omega (arith, c.chain.invariant.low) in
     let key = c.chain.invariant.key i none (omega arith) in
@@ -48,7 +50,12 @@ chain-preserved c =
       low = omega (arith, is.low);
       key = is.key_of;
       narrows =
-          narrows_then (AllFit c.args.q.now squares) (λ values. allows c.image-allowed.result (get_or values (get_or squares i none).restricted 0) ≡ true) c.args.self.now c.chain.self c.narrow.new.self c.in_ok-narrow.field-0 true c.chain.invariant.narrows c.in_ok-narrow.ensures
-          (image_allowed c.args.q.now squares i none low c.chain.self.masks.items c.row.result.now c.args.place c.index.result.now c.image-allowed.result key (omega (arith, c.requires.place, c.chain.invariant.narrows.extends.places)) c.index.ensures c.row.ensures c.image-allowed.ensures)
-          c.if-not-branch.false;
+          elim c.if-not-is_sole.branch [
+            | then-not-is_sole+in_ok-narrow+else-not-branch w ↦
+                subst (λ d. Narrows fit c.args.self.now d true) (sym w.self-is)
+                (narrows_then fit (λ values. allows w.image-allowed.result (get_or values (get_or squares i none).restricted 0) ≡ true) c.args.self.now c.chain.self w.narrow.new.self w.in_ok-narrow.field-0 true c.chain.invariant.narrows w.in_ok-narrow.ensures
+                (image_allowed c.args.q.now squares i none low c.chain.self.masks.items w.row.result.now c.args.place w.index-then-not-is_sole.result.now w.image-allowed.result key (omega (arith, c.requires.place, c.chain.invariant.narrows.extends.places)) w.index-then-not-is_sole.ensures w.row.ensures w.image-allowed.ensures)
+                w.if-not-branch.false)
+            | else-not-is_sole w ↦ subst (λ d. Narrows fit c.args.self.now d true) (sym w.self-is) c.chain.invariant.narrows
+          ];
     }
