@@ -1,8 +1,9 @@
 -- Sets of residues modulo 64, as the bits of words.
-use Rattle.std.proofs.Common.{◌≡◌, ℕ, ◌-◌, ◌*◌, ◌/◌, ◌%◌, ◌^◌, ◌<◌, inl, inr, true, eqb, sym, ap, ◌∙◌, arith, bit_and, bit_or}
-use Rattle.std.specs.Int.{bit_at}
+use Rattle.std.proofs.Common.{◌≡◌, ℕ, ◌-◌, ◌*◌, ◌%◌, ◌^◌, ◌<◌, inl, inr, true, sym, ap, ◌∙◌, arith, bit_and, bit_or, w64, refl, Bool, false, ◌⊎◌}
+use Rattle.std.specs.Int.{bit_at, bit_not}
 use Rattle.std.proofs.lemmas.Bool.{eqb-true, eq-eqb, cases_eq}
-use Rattle.std.proofs.lemmas.Nat.Bits.{shr_and_one, bit_at_and, bit_at_or, bit_at-lt, bit_at-zero, bit_at_ones, bit_at-pow_same, bit_at-pow_other}
+use Rattle.std.proofs.lemmas.Nat.Bits.{bit_at_and, bit_at_or, bit_at-lt, bit_at-zero, bit_at_ones, bit_at-pow_same, bit_at-pow_other, bit_at_clear_same, bit_at_clear_other}
+use Rattle.std.proofs.lemmas.Nat.{and_le_l}
 use Rattle.std.proofs.Math.Pow.{pow-lt}
 use Rattle.std.proofs.Math.Nat.{mod-eq_of_lt, mod-lt}
 use Rattle.natural_maps.specs.Domains.{allows}
@@ -17,10 +18,6 @@ bit_of mask v e = eqb-true _ _ e
 of_bit : (mask v : ℕ) → bit_at mask (v % 64) ≡ 1 → allows mask v ≡ true
 unfolding allows
 of_bit mask v e = eq-eqb _ _ e
-
-pub allows_test : (mask v : ℕ) → eqb (bit_and (mask / 2 ^ (v % 64)) 1) 1 ≡ allows mask v
-unfolding allows
-allows_test mask v = ap (λ b. eqb b 1) (shr_and_one mask (v % 64))
 
 pub allows_or_left : (a b v : ℕ) → allows a v ≡ true → allows (bit_or a b) v ≡ true
 allows_or_left a b v e = let h = bit_of a v e in let l = bit_at-lt b (v % 64) in of_bit (bit_or a b) v (omega (arith, bit_at_or a b (v % 64), h, l))
@@ -61,3 +58,26 @@ sole_residue mask residue v low is e = elim (cases_eq (v % 64) residue) [
       let none = ap (λ m. bit_at m (v % 64)) same ∙ bit_at-pow_other residue (v % 64) other in
       absurd (omega (arith, none, bit_of mask v e)))
 ]
+
+-- the word without its lowest residue has the others, and is less
+pub cleared_other : (mask residue v : ℕ) → residue < 64 → (v % 64 ≡ residue → ⊥) → allows mask v ≡ true → allows (bit_and mask (bit_not w64 (1 * 2 ^ residue % 2 ^ 64))) v ≡ true
+cleared_other mask residue v low other e = of_bit _ v (bit_at_clear_other w64 mask residue low (v % 64) (residue_low v) other ∙ bit_of mask v e)
+
+pub cleared_less : (mask residue : ℕ) → residue < 64 → bit_at mask residue ≡ 1 → bit_and mask (bit_not w64 (1 * 2 ^ residue % 2 ^ 64)) < mask
+cleared_less mask residue low one =
+    let le = and_le_l mask (bit_not w64 (1 * 2 ^ residue % 2 ^ 64)) in
+    let none = bit_at_clear_same w64 mask residue low in
+    elim (cases_eq (bit_and mask (bit_not w64 (1 * 2 ^ residue % 2 ^ 64))) mask) [
+      | inl same ↦ (let b : bit_at mask residue ≡ 0 = ap (λ m. bit_at m residue) (sym same) ∙ none in absurd (omega (arith, b, one)))
+      | inr ne ↦ omega (arith, le, ne)
+    ]
+
+pub allows_or_not : (mask v : ℕ) → (allows mask v ≡ true) ⊎ (allows mask v ≡ false)
+allows_or_not mask v = decide (allows mask v) refl
+  where
+    decide : (b : Bool) → allows mask v ≡ b → (allows mask v ≡ true) ⊎ (allows mask v ≡ false)
+    decide true e = inl e
+    decide false e = inr e
+
+pub allows_nothing : (v : ℕ) → allows 0 v ≡ false
+allows_nothing v = elim (allows_or_not 0 v) [ inl e ↦ absurd (allows_none v e) | inr e ↦ e ]

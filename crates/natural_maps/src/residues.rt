@@ -12,13 +12,6 @@ pub(crate) fn one(v: usize) -> u64
     1 << (v % 64)
 }
 
-// Whether a number is in a set.
-fn has(mask: u64, v: usize) -> bool
-    ensures { result ≡ allows mask v }
-{
-    mask >> (v % 64) & 1 == 1
-}
-
 // A set with one more number.
 pub(crate) fn with(mask: u64, v: usize) -> u64
     ensures new { allows result v ≡ true }
@@ -43,6 +36,21 @@ pub(crate) fn is_sole(mask: u64) -> bool {
     mask & mask.wrapping_sub(1) == 0
 }
 
+// A set with the numbers to which a row takes those with a residue.
+fn with_images(mask: u64, row: &[u32], residue: usize) -> u64
+    requires { residue < 64 }
+    ensures old { (v : ℕ) → allows mask v ≡ true → allows result v ≡ true }
+    ensures new { (w : ℕ) → w < length row.now → w % 64 ≡ residue → allows result (get_or row.now w 0) ≡ true }
+{
+    let mut images = mask;
+    let mut w = residue;
+    'places: while w < row.len() {
+        images = with(images, row[w] as usize);
+        w += 64;
+    }
+    images
+}
+
 // The numbers to which a row takes those of a set; all, where the row is long.
 pub(crate) fn image(row: &[u32], mask: u64) -> u64
     ensures { (w : ℕ) → w < length row.now → allows mask w ≡ true → allows result (get_or row.now w 0) ≡ true }
@@ -51,10 +59,11 @@ pub(crate) fn image(row: &[u32], mask: u64) -> u64
         return u64::MAX;
     }
     let mut image = 0;
-    for w in 0..row.len() {
-        if has(mask, w) {
-            image = with(image, row[w] as usize);
-        }
+    let mut rest = mask;
+    'residues: while rest != 0 {
+        let residue = rest.trailing_zeros();
+        image = with_images(image, row, residue as usize);
+        rest = rest & !(1 << residue);
     }
     image
 }
