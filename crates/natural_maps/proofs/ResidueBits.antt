@@ -1,8 +1,8 @@
 -- Sets of residues modulo 64, as the bits of words.
-use Rattle.std.proofs.Common.{◌≡◌, ℕ, ◌-◌, ◌*◌, ◌%◌, ◌^◌, ◌<◌, inl, inr, true, sym, ap, ◌∙◌, arith, bit_and, bit_or, w64, refl, Bool, false, ◌⊎◌}
-use Rattle.std.specs.Int.{bit_at, bit_not}
+use Rattle.std.proofs.Common.{◌≡◌, ℕ, ◌-◌, ◌*◌, ◌%◌, ◌^◌, ◌<◌, zero, suc, inl, inr, true, sym, ap, ◌∙◌, arith, bit_and, bit_or, w64, refl, Bool, false, ◌⊎◌}
+use Rattle.std.specs.Int.{bit_at, bit_not, trailing_zeros}
 use Rattle.std.proofs.lemmas.Bool.{eqb-true, eq-eqb, cases_eq}
-use Rattle.std.proofs.lemmas.Nat.Bits.{bit_at_and, bit_at_or, bit_at-lt, bit_at-zero, bit_at_ones, bit_at-pow_same, bit_at-pow_other, bit_at_clear_same, bit_at_clear_other}
+use Rattle.std.proofs.lemmas.Nat.Bits.{bit_at-trailing_zeros, bit_at_and, bit_at_or, bit_at-lt, bit_at-zero, bit_at_ones, bit_at-pow_same, bit_at-pow_other, bit_at_clear_same, bit_at_clear_other}
 use Rattle.std.proofs.lemmas.Nat.{and_le_l}
 use Rattle.std.proofs.Math.Pow.{pow-lt}
 use Rattle.std.proofs.Math.Nat.{mod-eq_of_lt, mod-lt}
@@ -49,15 +49,32 @@ pub allows_all : (v : ℕ) → allows 18446744073709551615 v ≡ true
 allows_all v = of_bit 18446744073709551615 v (bit_at_ones 64 (v % 64) (residue_low v))
 
 -- the word of one residue has no other
-pub sole_residue : (mask residue v : ℕ) → residue < 64 → mask ≡ 1 * 2 ^ residue % 18446744073709551616 → allows mask v ≡ true → v % 64 ≡ residue
-sole_residue mask residue v low is e = elim (cases_eq (v % 64) residue) [
+pub sole_residue : (mask residue v : ℕ) → mask ≡ 2 ^ residue → allows mask v ≡ true → v % 64 ≡ residue
+sole_residue mask residue v is e = elim (cases_eq (v % 64) residue) [
   | inl same ↦ same
-  | inr other ↦
-      (let small : 1 * 2 ^ residue < 18446744073709551616 = omega (arith, pow-lt {i = residue} {j = 64} low) in
-      let same : mask ≡ 2 ^ residue = is ∙ mod-eq_of_lt small ∙ (let one : 1 * 2 ^ residue ≡ 2 ^ residue = omega arith in one) in
-      let none = ap (λ m. bit_at m (v % 64)) same ∙ bit_at-pow_other residue (v % 64) other in
-      absurd (omega (arith, none, bit_of mask v e)))
+  | inr other ↦ (let none = ap (λ m. bit_at m (v % 64)) is ∙ bit_at-pow_other residue (v % 64) other in absurd (omega (arith, none, bit_of mask v e)))
 ]
+
+pub shifted_one : (residue : ℕ) → residue < 64 → 1 * 2 ^ residue % 18446744073709551616 ≡ 2 ^ residue
+shifted_one residue low =
+    let small : 1 * 2 ^ residue < 18446744073709551616 = omega (arith, pow-lt {i = residue} {j = 64} low) in
+    mod-eq_of_lt small ∙ (let one : 1 * 2 ^ residue ≡ 2 ^ residue = omega arith in one)
+
+-- its lowest bit is the only one
+pub lowest_of_one : (mask residue : ℕ) → residue < 64 → mask ≡ 2 ^ residue → trailing_zeros w64 mask ≡ residue
+lowest_of_one mask residue low is =
+    let same = ap (λ m. bit_at m residue) is ∙ bit_at-pow_same residue in
+    let some : 0 < mask = decide mask refl same in
+    let fits : mask < 18446744073709551616 = omega (arith, is, pow-lt {i = residue} {j = 64} low) in
+    let lowest = bit_at-trailing_zeros w64 mask some fits in
+    elim (cases_eq (trailing_zeros w64 mask) residue) [
+      | inl e ↦ e
+      | inr other ↦ (let none = ap (λ m. bit_at m (trailing_zeros w64 mask)) is ∙ bit_at-pow_other residue (trailing_zeros w64 mask) other in absurd (omega (arith, none, lowest.1)))
+    ]
+  where
+    decide : (n : ℕ) → mask ≡ n → bit_at mask residue ≡ 1 → 0 < mask
+    decide zero e b = (let none = ap (λ m. bit_at m residue) e ∙ bit_at-zero residue in absurd (omega (arith, none, b)))
+    decide (suc n) e b = omega (arith, e)
 
 -- the word without its lowest residue has the others, and is less
 pub cleared_other : (mask residue v : ℕ) → residue < 64 → (v % 64 ≡ residue → ⊥) → allows mask v ≡ true → allows (bit_and mask (bit_not w64 (1 * 2 ^ residue % 2 ^ 64))) v ≡ true

@@ -5,7 +5,7 @@ ghost use Rattle.natural_maps.specs.Squares.{AreSquares};
 ghost use Rattle.natural_maps.specs.Domains.{allows, AllFit, AreLinks, ArePreimages, IsWhole, Narrows, at_level};
 
 use crate::links::Links;
-use crate::residues::{below, image, is_sole, one, sole};
+use crate::residues::{below, image, one, sole};
 use crate::squares::Square;
 use presheaf_core::Functor;
 use std::alloc::Global;
@@ -112,7 +112,7 @@ impl Domains {
         'chain: while 0 < next {
             let index = next - 1;
             let square = squares[index];
-            if !is_sole(self.masks[square.restricted]) {
+            if sole(self.masks[square.restricted]).is_none() {
                 let allowed = image(q.row(square.arrow), self.masks[place]);
                 if !self.narrow(square.restricted, allowed)? {
                     return Ok(false);

@@ -1,5 +1,5 @@
 // Sets of numbers as words: a bit for each residue modulo 64, so that numbers below 64 are told apart.
-ghost use Rattle.std.specs.Prelude.{◌≡◌, ◌<◌, ◌%◌, ℕ, true, length, get_or, IfSome};
+ghost use Rattle.std.specs.Prelude.{◌≡◌, ◌<◌, ◌%◌, ◌^◌, ℕ, true, length, get_or, None, IfSome};
 ghost use Rattle.natural_maps.specs.Domains.{allows};
 
 // The longest row of a restriction that is gone through.
@@ -29,11 +29,6 @@ pub(crate) fn below(bound: u32) -> u64
     } else {
         u64::MAX
     }
-}
-
-// Whether there is no more than one residue.
-pub(crate) fn is_sole(mask: u64) -> bool {
-    mask & mask.wrapping_sub(1) == 0
 }
 
 // A set with the numbers to which a row takes those with a residue.
@@ -68,9 +63,10 @@ pub(crate) fn image(row: &[u32], mask: u64) -> u64
     image
 }
 
-// The only residue of a set that has one.
+// The residue of a set that has exactly one.
 pub(crate) fn sole(mask: u64) -> Option<usize>
-    ensures { IfSome result (λ residue. (residue < 64) × ((v : ℕ) → allows mask v ≡ true → v % 64 ≡ residue)) }
+    ensures some { IfSome result (λ residue. (residue < 64) × (mask ≡ 2 ^ residue)) }
+    ensures none { result ≡ None → (residue : ℕ) → residue < 64 → mask ≡ 2 ^ residue → ⊥ }
 {
     let residue = mask.trailing_zeros();
     if residue < 64 && mask == 1 << residue {

@@ -6,7 +6,7 @@ use Rattle.natural_maps.specs.Domains.{allows, AllFit, Narrows}
 use Rattle.natural_maps.proofs.SquareChains.{chain_first, chain_next, links_within}
 use Rattle.natural_maps.proofs.Narrowing.{narrows_refl, narrows_then, image_allowed}
 use Rattle.natural_maps.proofs.domains.Domains.narrow_below.Goals as goal
-use Rattle.natural_maps.proofs.domains.Domains.narrow_below.Goals.{then-not-is_sole+in_ok-narrow+else-not-branch, else-not-is_sole}
+use Rattle.natural_maps.proofs.domains.Domains.narrow_below.Goals.{then-is_none+in_ok-narrow+else-not-branch, else-is_none}
 
 abbrev none : Square
 none = record { arrow = 0; element = 0; restricted = 0 }
@@ -21,8 +21,8 @@ returns-then-not-branch c =
     let squares = c.args.squares.now in
     let i = c.chain.next - 1 in
     narrows_then (AllFit c.args.q.now squares) (λ values. allows c.image-allowed.result (get_or values (get_or squares i none).restricted 0) ≡ true) c.args.self.now c.chain.self c.narrow.new.self c.in_ok-narrow.field-0 false c.chain.invariant.narrows c.in_ok-narrow.ensures
-    (image_allowed c.args.q.now squares i none (omega (arith, c.chain.invariant.low)) c.chain.self.masks.items c.row.result.now c.args.place c.index-then-not-is_sole.result.now c.image-allowed.result (c.chain.invariant.key i none (omega arith))
-    (omega (arith, c.requires.place, c.chain.invariant.narrows.extends.places)) c.index-then-not-is_sole.ensures c.row.ensures c.image-allowed.ensures)
+    (image_allowed c.args.q.now squares i none (omega (arith, c.chain.invariant.low)) c.chain.self.masks.items c.row.result.now c.args.place c.index-then-is_none.result.now c.image-allowed.result (c.chain.invariant.key i none (omega arith))
+    (omega (arith, c.requires.place, c.chain.invariant.narrows.extends.places)) c.index-then-is_none.ensures c.row.ensures c.image-allowed.ensures)
     c.if-not-branch.true
 
 pub get-next-requires : goal.get-next-requires
@@ -50,12 +50,12 @@ chain-preserved c =
       low = omega (arith, is.low);
       key = is.key_of;
       narrows =
-          elim c.if-not-is_sole.branch [
-            | then-not-is_sole+in_ok-narrow+else-not-branch w ↦
+          elim c.if-is_none.branch [
+            | then-is_none+in_ok-narrow+else-not-branch w ↦
                 subst (λ d. Narrows fit c.args.self.now d true) (sym w.self-is)
                 (narrows_then fit (λ values. allows w.image-allowed.result (get_or values (get_or squares i none).restricted 0) ≡ true) c.args.self.now c.chain.self w.narrow.new.self w.in_ok-narrow.field-0 true c.chain.invariant.narrows w.in_ok-narrow.ensures
-                (image_allowed c.args.q.now squares i none low c.chain.self.masks.items w.row.result.now c.args.place w.index-then-not-is_sole.result.now w.image-allowed.result key (omega (arith, c.requires.place, c.chain.invariant.narrows.extends.places)) w.index-then-not-is_sole.ensures w.row.ensures w.image-allowed.ensures)
+                (image_allowed c.args.q.now squares i none low c.chain.self.masks.items w.row.result.now c.args.place w.index-then-is_none.result.now w.image-allowed.result key (omega (arith, c.requires.place, c.chain.invariant.narrows.extends.places)) w.index-then-is_none.ensures w.row.ensures w.image-allowed.ensures)
                 w.if-not-branch.false)
-            | else-not-is_sole w ↦ subst (λ d. Narrows fit c.args.self.now d true) (sym w.self-is) c.chain.invariant.narrows
+            | else-is_none w ↦ subst (λ d. Narrows fit c.args.self.now d true) (sym w.self-is) c.chain.invariant.narrows
           ];
     }

@@ -1,6 +1,7 @@
 use Rattle.std.proofs.Common.{◌≡◌, ℕ, ◌%◌, true, false, List, get_or, refl, sym, subst, arith}
 use Rattle.natural_maps.specs.Domains.{AllFit, Narrows}
 use Rattle.natural_maps.proofs.Narrowing.{narrows_refl, narrows_then, residue_of}
+use Rattle.natural_maps.proofs.ResidueBits.{sole_residue}
 use Rattle.natural_maps.proofs.domains.Domains.propagate.Goals as goal
 use Rattle.natural_maps.proofs.domains.Domains.propagate.Goals.{in-Some+in_ok-narrow_below+else-not-branch+in_ok-narrow_above+else-not-branch-2, in_default}
 
@@ -21,7 +22,7 @@ returns-then-not-branch-2 c =
     (narrows_then both both c.changes.self c.narrow_below.new.self c.narrow_above.new.self c.in_ok-narrow_above.field-0 false
     (narrows_then both fit c.changes.self c.changes.self c.narrow_below.new.self c.in_ok-narrow_below.field-0 true (narrows_refl both c.changes.self c.changes.invariant.extends.whole) c.in_ok-narrow_below.ensures (λ values good all. good.0) c.if-not-branch.false)
     c.in_ok-narrow_above.ensures (λ values good all. good) c.if-not-branch-2.true)
-    (λ values good all. (good, residue_of c.changes.self place c.index.result.now c.changes.index c.in-Some.residue c.index-in-changes.result.now c.changes.invariant.extends.whole (omega (arith, c.if-len-index.false, c.len.ensures)) c.index.ensures refl c.index-in-changes.ensures c.in-Some.ensures.1 values all))
+    (λ values good all. (good, residue_of c.changes.self place c.index.result.now c.changes.index c.in-Some.residue c.index-in-changes.result.now c.changes.invariant.extends.whole (omega (arith, c.if-len-index.false, c.len.ensures)) c.index.ensures refl c.index-in-changes.ensures (λ v. sole_residue c.index-in-changes.result.now c.in-Some.residue v c.in-Some.ensures.some.1) values all))
     refl
 
 pub changes-preserved : goal.changes-preserved
@@ -36,7 +37,7 @@ changes-preserved c =
           (narrows_then both both c.changes.self w.narrow_below.new.self w.narrow_above.new.self w.in_ok-narrow_above.field-0 true
           (narrows_then both fit c.changes.self c.changes.self w.narrow_below.new.self w.in_ok-narrow_below.field-0 true (narrows_refl both c.changes.self c.changes.invariant.extends.whole) w.in_ok-narrow_below.ensures (λ values good all. good.0) w.if-not-branch.false)
           w.in_ok-narrow_above.ensures (λ values good all. good) w.if-not-branch-2.false)
-          (λ values good all. (good, residue_of c.changes.self place c.index.result.now c.changes.index w.in-Some.residue c.index-in-changes.result.now c.changes.invariant.extends.whole (omega (arith, c.if-len-index.false, c.len.ensures)) c.index.ensures refl c.index-in-changes.ensures w.in-Some.ensures.1 values all))
+          (λ values good all. (good, residue_of c.changes.self place c.index.result.now c.changes.index w.in-Some.residue c.index-in-changes.result.now c.changes.invariant.extends.whole (omega (arith, c.if-len-index.false, c.len.ensures)) c.index.ensures refl c.index-in-changes.ensures (λ v. sole_residue c.index-in-changes.result.now w.in-Some.residue v w.in-Some.ensures.some.1) values all))
           refl))
       | in_default w ↦ subst (λ d. Narrows fit c.args.self.now d true) (sym w.self-is) c.changes.invariant
     ]
