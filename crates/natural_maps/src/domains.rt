@@ -123,7 +123,7 @@ impl Domains {
         Ok(true)
     }
 
-    // Narrows the places of the elements whose restriction is at a place that has one residue left, and those of their restrictions.
+    // Narrows the places of the elements whose restriction is at a place that has one residue left, and those of their restrictions; where an element has one left, its turn comes later.
     fn narrow_above(
         &mut self,
         q: &Functor,
@@ -144,12 +144,11 @@ impl Domains {
         'chain: while 0 < next {
             let index = next - 1;
             let square = squares[index];
-            let changes = self.trail.len();
             let allowed = links.preimages.at(q, square.arrow, residue);
             if !self.narrow(square.element, allowed)? {
                 return Ok(false);
             }
-            if changes < self.trail.len() {
+            if sole(self.masks[square.element]).is_none() {
                 if !self.narrow_below(q, squares, links, square.element)? {
                     return Ok(false);
                 }

@@ -6,7 +6,7 @@ use Rattle.natural_maps.specs.Domains.{allows, AllFit, Narrows}
 use Rattle.natural_maps.proofs.SquareChains.{chain_first, chain_next, links_within}
 use Rattle.natural_maps.proofs.Narrowing.{narrows_refl, narrows_then, preimage_allowed}
 use Rattle.natural_maps.proofs.domains.Domains.narrow_above.Goals as goal
-use Rattle.natural_maps.proofs.domains.Domains.narrow_above.Goals.{then-changes-len+in_ok-narrow_below+else-not-branch-2, else-changes-len}
+use Rattle.natural_maps.proofs.domains.Domains.narrow_above.Goals.{then-is_none+in_ok-narrow_below+else-not-branch-2, else-is_none}
 
 abbrev none : Square
 none = record { arrow = 0; element = 0; restricted = 0 }
@@ -65,10 +65,10 @@ chain-preserved c =
       low = omega (arith, is.low);
       key = is.key_of;
       narrows =
-          elim c.if-changes-len.branch [
-            | then-changes-len+in_ok-narrow_below+else-not-branch-2 w ↦
+          elim c.if-is_none.branch [
+            | then-is_none+in_ok-narrow_below+else-not-branch-2 w ↦
                 subst (λ d. Narrows both c.args.self.now d true) (sym w.self-is)
                 (narrows_then both (AllFit c.args.q.now squares) c.args.self.now c.narrow.new.self w.narrow_below.new.self w.in_ok-narrow_below.field-0 true narrowed w.in_ok-narrow_below.ensures (λ values good all. good.0) w.if-not-branch-2.false)
-            | else-changes-len w ↦ subst (λ d. Narrows both c.args.self.now d true) (sym w.self-is) narrowed
+            | else-is_none w ↦ subst (λ d. Narrows both c.args.self.now d true) (sym w.self-is) narrowed
           ];
     }
