@@ -13,7 +13,7 @@ use Rattle.natural_maps.specs.Search.{assignments, bounds_of, is_natural}
 use Rattle.natural_maps.proofs.AllMaps.{In-choices_from}
 use Rattle.natural_maps.proofs.FlatSquares.{place_of, broken_at}
 
-append_right : (p rest : List ℕ) (i : ℕ) → get_or (p ++ rest) (length p + i) 0 ≡ get_or rest i 0
+pub append_right : (p rest : List ℕ) (i : ℕ) → get_or (p ++ rest) (length p + i) 0 ≡ get_or rest i 0
 append_right [] rest i = let e : 0 + i ≡ i = omega arith in ap (λ n. get_or rest n 0) e
 append_right (x ∷ p) rest i = let e : suc (length p) + i ≡ suc (length p + i) = omega arith in ap (λ n. get_or (x ∷ p ++ rest) n 0) e ∙ append_right p rest i
 

@@ -1,47 +1,23 @@
 -- The cells of a presheaf by its sizes, object by object.
-use Rattle.std.proofs.Common.{◌≡◌, ℕ, zero, suc, ◌+◌, ◌*◌, ◌/◌, div-lt_iff_lt-mul, ◌<◌, ◌≤◌, List, [], ◌∷◌, map, length, get_or, sum, Option, Some, None, subst, refl, ap, ◌∙◌, arith, inl, inr}
-use Rattle.std.specs.List.{range_with_len}
+use Rattle.std.proofs.Common.{◌≡◌, ℕ, zero, suc, ◌+◌, ◌*◌, ◌/◌, div-lt_iff_lt-mul, ◌<◌, ◌≤◌, List, [], length, get_or, Option, Some, None, subst, refl, ap, ◌∙◌, arith, inl, inr}
 use Rattle.std.proofs.lemmas.Bool.{cases_lt}
-use Rattle.std.proofs.lemmas.List.Sums.{sum_by-append}
-use Rattle.std.proofs.lemmas.List.FromFn.{map-range_with_len_more}
 use Rattle.topos_model.specs.categories.Category.{Category, into}
 use Rattle.topos_model.specs.types.Types.{Presheaf}
 use Rattle.topos_model.specs.Laws.{size}
 use Rattle.topos_model.specs.statements.Cells.{presheaf_cells}
+use Rattle.presheaf_core.proofs.CellSums.{cells_below, cells_more, cells_all}
 use Rattle.natural_maps.specs.Room.{sized_cells, AreSizesWithin}
 
 abbrev pub presheaf : List ℕ → List (List ℕ) → Presheaf
 presheaf sizes along = record { sizes = sizes; along = along }
 
--- the cells of the elements at the first n objects
-unfoldable pub cells_below : Category → List ℕ → ℕ → ℕ
-cells_below k sizes n = sum (map (λ c. get_or sizes c 0 * (1 + length (into k c))) (range_with_len 0 n))
-
 module _ (k : Category) (sizes : List ℕ) where
-  abbrev cells : ℕ → ℕ
-  cells c = get_or sizes c 0 * (1 + length (into k c))
-
-  pub cells_none : cells_below k sizes 0 ≡ 0
-  unfolding cells_below
-  cells_none = refl
-
-  pub cells_more : (n : ℕ) → cells_below k sizes (n + 1) ≡ cells_below k sizes n + get_or sizes n 0 * (1 + length (into k n))
-  unfolding cells_below
-  cells_more n =
-      ap sum (map-range_with_len_more cells 0 n n (omega arith))
-      ∙ sum_by-append (λ x. x) (map cells (range_with_len 0 n)) (cells n ∷ [])
-      ∙ omega arith
-
-  pub cells_all : cells_below k sizes k.objects ≡ sized_cells k sizes
-  unfolding cells_below presheaf_cells
-  cells_all = refl
-
   -- more objects have more cells
   cells_rise : (d n m : ℕ) → n + d ≡ m → cells_below k sizes n ≤ cells_below k sizes m
   cells_rise zero n m e = let w : n ≡ m = omega arith in rw w (omega arith)
   cells_rise (suc d) n m e =
       let b : cells_below k sizes (n + 1) ≤ cells_below k sizes m = cells_rise d (n + 1) m (omega arith) in
-      let s : cells_below k sizes (n + 1) ≡ cells_below k sizes n + get_or sizes n 0 * (1 + length (into k n)) = cells_more n in
+      let s : cells_below k sizes (n + 1) ≡ cells_below k sizes n + get_or sizes n 0 * (1 + length (into k n)) = cells_more k sizes n in
       omega arith
 
   pub cells_within : (n m : ℕ) → n ≤ m → cells_below k sizes n ≤ cells_below k sizes m
@@ -56,9 +32,9 @@ module _ (k : Category) (sizes : List ℕ) where
   pub size_within : (c : ℕ) → c < k.objects → get_or sizes c 0 ≤ sized_cells k sizes
   size_within c h =
       let a : cells_below k sizes (c + 1) ≤ cells_below k sizes k.objects = cells_within (c + 1) k.objects (omega arith) in
-      let s : cells_below k sizes (c + 1) ≡ cells_below k sizes c + get_or sizes c 0 * (1 + length (into k c)) = cells_more c in
+      let s : cells_below k sizes (c + 1) ≡ cells_below k sizes c + get_or sizes c 0 * (1 + length (into k c)) = cells_more k sizes c in
       let m : get_or sizes c 0 ≤ get_or sizes c 0 * (1 + length (into k c)) = at_least (get_or sizes c 0) (length (into k c)) in
-      let e : cells_below k sizes k.objects ≡ sized_cells k sizes = cells_all in
+      let e : cells_below k sizes k.objects ≡ sized_cells k sizes = cells_all k sizes [] in
       omega arith
     where
       at_least : (a b : ℕ) → a ≤ a * (1 + b)

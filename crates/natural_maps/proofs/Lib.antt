@@ -25,3 +25,7 @@ pub mod PlaceSearch
 pub mod SquareChains
 pub mod CutRows
 pub mod TableListings
+pub mod ResidueBits
+pub mod Narrowing
+pub mod GuardedSearch
+pub mod FreeCounts

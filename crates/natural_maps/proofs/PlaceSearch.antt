@@ -114,16 +114,16 @@ module _ (k : Category) (P Q : Presheaf) (law : IsCategory k) (domain : IsFuncto
   places = length (bounds_of k P Q)
 
   -- the place of x at c
-  here : (c x : ℕ) → offset P.sizes c + x ≡ place_of k P Q c x
+  pub here : (c x : ℕ) → offset P.sizes c + x ≡ place_of k P Q c x
   here c x = ap (λ l. offset l c + x) (sym (sizes_are k P domain))
 
-  within_places : (c x : ℕ) → c < k.objects → x < size P c → offset P.sizes c + x < places
+  pub within_places : (c x : ℕ) → c < k.objects → x < size P c → offset P.sizes c + x < places
   within_places c x low within = omega (arith, place_within P.sizes c x (omega (arith, low, domain.objects)) within, places_are k P Q domain)
 
-  bound_here : (c x : ℕ) → c < k.objects → x < size P c → get_or (bounds_of k P Q) (offset P.sizes c + x) 0 ≡ size Q c
+  pub bound_here : (c x : ℕ) → c < k.objects → x < size P c → get_or (bounds_of k P Q) (offset P.sizes c + x) 0 ≡ size Q c
   bound_here c x low within = ap (λ n. get_or (bounds_of k P Q) n 0) (here c x) ∙ bound_at k P Q c x low within
 
-  each_square : (G : Square → Type 0) → ((f x : ℕ) → f < length k.ends → x < size P (cod k f) → G (square_of k P f x)) → (s : ℕ) (d : Square) → s < length (squares_of k P) → G (get_or (squares_of k P) s d)
+  pub each_square : (G : Square → Type 0) → ((f x : ℕ) → f < length k.ends → x < size P (cod k f) → G (square_of k P f x)) → (s : ℕ) (d : Square) → s < length (squares_of k P) → G (get_or (squares_of k P) s d)
   each_square G h s d low = let is = square_from k P few (get_or (squares_of k P) s d) (In_at (squares_of k P) s d low) in subst G is.is (h is.f is.x is.arrow is.element)
 
   pub are_squares : AreSquares Q places (squares_of k P)

@@ -49,3 +49,10 @@ pub record AreChains (count : ℕ) (keys heads links : List ℕ) : Type 0 where
 -- the later one of its two places
 abbrev pub later_place : Square → ℕ
 later_place s = max s.element s.restricted
+
+-- the place of its element, and that of the restriction
+abbrev pub element_of : Square → ℕ
+element_of s = s.element
+
+abbrev pub restricted_of : Square → ℕ
+restricted_of s = s.restricted

@@ -13,7 +13,7 @@ pub(crate) struct Chains {
 }
 
 // So many keys without an index.
-fn no_heads(alloc: Global, count: usize) -> Result<Vec<usize>, NoMemory>
+pub(crate) fn no_heads(alloc: Global, count: usize) -> Result<Vec<usize>, NoMemory>
     ensures { IfOk result (λ heads. heads.items ≡ replicate count 0) }
 {
     let mut heads = Vec::new(alloc);

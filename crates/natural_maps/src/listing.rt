@@ -6,11 +6,15 @@ ghost use Rattle.natural_maps.specs.Places.{offset, cut};
 ghost use Rattle.natural_maps.specs.Room.{max_room};
 ghost use Rattle.natural_maps.specs.Search.{bounds_of};
 ghost use Rattle.natural_maps.specs.Squares.{squares_of, later_place, AreChains};
+ghost use Rattle.natural_maps.specs.Domains.{AreLinks, ArePreimages};
 ghost use Rattle.natural_maps.specs.Listed.{IfAll, IfOver};
 
 use crate::NatMap;
 use crate::bounds::bounds;
-use crate::chains::Chains;
+use crate::chains::{Chains, no_heads};
+use crate::domains::Domains;
+use crate::free_places::search_room;
+use crate::links::Links;
 use crate::places::offsets;
 use crate::squares::{Square, all_fit, later_places, squares};
 use fin_category::Cat;
@@ -82,7 +86,7 @@ fn zeros(alloc: Global, count: usize) -> Result<Vec<u32>, NoMemory>
     Ok(zeros)
 }
 
-// All natural maps from a presheaf with some element, place by place: a number that does not fit the earlier ones is passed over.
+// All natural maps from a presheaf with some element, place by place: a number that leaves none at another place, or does not fit the earlier ones, is passed over.
 fn search(
     alloc: Global,
     cat: &Cat,
@@ -92,6 +96,7 @@ fn search(
     bounds: &[u32],
     squares: &[Square],
     chains: &Chains,
+    links: &Links,
 ) -> Result<Listing, NoMemory>
     requires domain { IsFunctor cat.now p.now }
     requires codomain { IsFunctor cat.now q.now }
@@ -99,6 +104,8 @@ fn search(
     requires some { 0 < length bounds.now }
     requires squares { squares.now ≡ squares_of cat.now p.now }
     requires chains { AreChains (length bounds.now) (map later_place squares.now) chains.now.heads.items chains.now.links }
+    requires links { AreLinks (length bounds.now) squares.now links.now }
+    requires preimages { ArePreimages q.now links.now.preimages.masks.items }
     ensures all { IfOk result (λ listing. IfAll listing (λ found. found ≡ maps cat.now p.now q.now)) }
     ensures within { IfOk result (λ listing. IfAll listing (λ found. length found ≤ room)) }
     ensures over { IfOk result (λ listing. IfOver listing (room < length (maps cat.now p.now q.now))) }
@@ -106,15 +113,22 @@ fn search(
     cat.laws();
     let mut found = Row::new(alloc);
     let mut values = zeros(alloc, bounds.len())?;
+    let mut domains = Domains::new(alloc, bounds)?;
+    // How many changes of the domains there were when each place was reached.
+    let mut levels = no_heads(alloc, bounds.len())?;
     let mut place = 0;
     let mut next = 0;
     'places: loop {
+        domains.rewind(levels[place]);
         if next < bounds[place] {
             values[place] = next;
-            if !all_fit(q, squares, chains, &values, place) {
+            if !domains.assign(q, squares, links, place, next)? {
+                next += 1;
+            } else if !all_fit(q, squares, chains, &values, place) {
                 next += 1;
             } else if place + 1 < bounds.len() {
                 place += 1;
+                levels[place] = domains.level();
                 next = 0;
             } else {
                 if found.len() as u64 == room {
@@ -181,14 +195,17 @@ pub fn list_maps(
     let squares = squares(alloc, cat, p, starts.as_slice())?;
     let places = later_places(alloc, squares.as_slice())?;
     let chains = Chains::of(alloc, bounds.len(), places.as_slice())?;
+    let links = Links::of(alloc, cat, q, bounds.len(), squares.as_slice())?;
+    let search_room = search_room(squares.as_slice(), &links, bounds.as_slice(), room);
     search(
         alloc,
         cat,
         p,
         q,
-        room,
+        search_room,
         bounds.as_slice(),
         squares.as_slice(),
         &chains,
+        &links,
     )
 }

@@ -472,6 +472,38 @@ fn faults_of_maps(rt: HostRuntime) -> Result<(), Fail> {
     Ok(())
 }
 
+// What a listed map from the set of so many elements to that of so many, at a single object, answers.
+fn set_map_answer(
+    alloc: Global,
+    from: usize,
+    to: usize,
+    images: &Row<Row<u32>>,
+) -> Result<String, AllocError> {
+    if let Ok(Some(cat)) = category(alloc, 1, &[], &[]) {
+        if let Ok(Some(p)) = set(alloc, &cat, from) {
+            if let Ok(Some(q)) = set(alloc, &cat, to) {
+                return map_answer(alloc, &cat, &p, &q, images);
+            }
+        }
+    }
+    format!(in alloc; "no sets")
+}
+
+/// Listed maps between sets at a single object: each is one that leaves no element out and names none that is not there.
+#[test]
+fn faults_of_maps_of_sets(rt: HostRuntime) -> Result<(), Fail> {
+    let alloc = rt.alloc();
+    let total = set_map_answer(alloc, 2, 3, &sole_row(alloc, &[2, 0])?)?;
+    assert_eq!(rt; total.as_str(), "map");
+    let unknown = set_map_answer(alloc, 2, 3, &sole_row(alloc, &[0, 3])?)?;
+    assert_eq!(rt; unknown.as_str(), "NoElement { at: 0, k: 3 }");
+    let source = set_map_answer(alloc, 1, 3, &sole_row(alloc, &[0, 1])?)?;
+    assert_eq!(rt; source.as_str(), "NoElement { at: 0, k: 1 }");
+    let short = set_map_answer(alloc, 2, 3, &sole_row(alloc, &[1])?)?;
+    assert_eq!(rt; short.as_str(), "MapNotTotal { at: 0, x: 1 }");
+    Ok(())
+}
+
 /// The graph of one edge has three maps to the graph with two edges one way and one back.
 #[test]
 fn maps_of_an_edge(rt: HostRuntime) -> Result<(), Fail> {
@@ -604,12 +636,14 @@ fn colourings(
     Ok(None)
 }
 
-/// The complete graph on four vertices and Grötzsch's graph, which has no triangle, need four colours. Nine vertices without an edge have 3^9 colourings.
+/// The complete graph on four vertices and Grötzsch's graph, which has no triangle, need four colours, though the 36 vertices without an edge beside the first one have 3^36 colourings.
+/// Those of a path of three vertices are over the room at the first one. Nine vertices without an edge have 3^9 colourings.
 #[test]
 fn colourings_of_graphs(rt: HostRuntime) -> Result<(), Fail> {
     let alloc = rt.alloc();
-    let complete = colourings(alloc, 4, &[0, 0, 0, 1, 1, 2], &[1, 2, 3, 2, 3, 3], 0)?;
+    let complete = colourings(alloc, 40, &[0, 0, 0, 1, 1, 2], &[1, 2, 3, 2, 3, 3], 19_683)?;
     assert_eq!(rt; complete, Some(0));
+    assert_eq!(rt; colourings(alloc, 40, &[0, 1], &[1, 2], 19_683)?, None);
     let sources = [0, 1, 2, 3, 4, 0, 1, 2, 3, 4, 0, 1, 2, 3, 4, 5, 6, 7, 8, 9];
     let targets = [
         1, 2, 3, 4, 0, 6, 7, 8, 9, 5, 9, 5, 6, 7, 8, 10, 10, 10, 10, 10,

@@ -1,5 +1,5 @@
 use Rattle.std.proofs.Common.{◌≡◌, ◌+◌}
-use Rattle.natural_maps.proofs.CellSums.{cells_below}
+use Rattle.presheaf_core.proofs.CellSums.{cells_below}
 use Rattle.natural_maps.proofs.room.fits.Given as goal
 
 abbrev pub invariant-loop-c : goal.invariant-loop-c
