@@ -12,5 +12,4 @@ mod types;
 pub use laws::reading_laws;
 pub use stop::Stop;
 pub use terms::any_term;
-pub use tree::{Binder, Binding, TermTree, TypeTree};
 pub use types::any_type;
