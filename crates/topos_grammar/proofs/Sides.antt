@@ -1,5 +1,5 @@
 -- The codes read the right sides of the grammar, and nothing else.
-use Rattle.std.proofs.Common.{◌≡◌, inl, inr, Bool, true, false, List, [], ◌∷◌, ◌++◌, refl, sym, ap, subst, ◌∙◌}
+use Rattle.std.proofs.Common.{◌≡◌, inl, inr, Bool, true, false, List, [], ◌∷◌, ◌++◌, refl, sym, ap, subst, ◌∙◌, None}
 use Rattle.std.proofs.lemmas.List.{append-nil}
 use Rattle.topos_text.specs.declared.word.Word.TheVariants as word
 use Rattle.topos_text.specs.declared.symbol.Symbol.TheVariants as symbol
@@ -16,9 +16,11 @@ use Rattle.topos_text.specs.SiteStatements as sites
 use Rattle.topos_text.specs.Statements as statements
 use Rattle.topos_text.specs.Documents.{Derives, nothing, this, by_type, by_term, by_statement}
 use Rattle.topos_text.proofs.DerivationParts.{whole_type, whole_term, whole_site, whole_statement}
-use Rattle.topos_grammar.specs.Kinds.{Sort, OfTerm, OfBinding, OfName, OfArrow, Tree, Kind, AnyType, ProductType, MoreFactors, PrefixType, AnyTerm, Disjunction, MoreDisjuncts, Conjunction, MoreConjuncts, Negation, BinderTerm, Comparison, Application, MoreArguments, Atom, Parentheses, Context, ArrowName, SiteStatement, Cover, part, Side, Covers, Topology, Section, Element, MapAt, Sent, OfCover, OfEntry, OfMapping}
+use Rattle.topos_grammar.specs.Kinds.{Sort, OfTerm, OfBinding, OfName, OfArrow, Tree, Kind, AnyType, ProductType, MoreFactors, PrefixType, AnyTerm, Disjunction, MoreDisjuncts, Conjunction, MoreConjuncts, Negation, BinderTerm, Comparison, Application, MoreArguments, Atom, Parentheses, Context, ArrowName, SiteStatement, Cover, part, Side, Covers, Topology, Section, Element, MapAt, Sent, OfCover, OfEntry, OfMapping, Under, Step, Statement, First, Second}
 use Rattle.topos_grammar.specs.Codes.{the, sign, Code, give, name, call, peek, code, unless, eat_word, eat_sign, bind, bound, entry, mapping}
 use Rattle.topos_grammar.proofs.Accepting.{Accepts, All}
+use Rattle.topos_grammar.proofs.ItemLists.{listed, separated}
+use Rattle.topos_grammar.proofs.StatementSides.{step_side, step_accepts, statement_side, statement_accepts}
 
 abbrev pub after_disjunction : Bool → TermTree → Code OfTerm
 after_disjunction b s = unless b (peek (sign symbol.Implies) (eat_sign symbol.Implies (call AnyTerm (λ t. give (tree.Implies s t)))) (give s)) (give s)
@@ -56,13 +58,6 @@ context_items (v ∷ vs) front (f1, f2, e, (r1, e1, (x, r2, e2, (r3, e3, (T, r4,
     let item : f1 ≡ token (Sign symbol.Comma) ∷ binding v = rw (e1, e2, e3, e4, e6, e5) refl in
     ap (λ z. binding b ++ z) (is ∙ e ∙ ap (λ z. z ++ f2) item) ∙ ap (λ z. binding b ++ token (Sign symbol.Comma) ∷ z) later
 
--- items behind an item, each with a comma
-listed : {A : Type 0} (X : A → List Part) (P : A → List Part → Type 0) → ((v : A) (f : List Part) → P v f → f ≡ token (Sign symbol.Comma) ∷ X v) → (vs : List A) (front : List Part) → All P vs front → (a : A) → X a ++ front ≡ commas X a vs
-unfolding commas
-listed X P item [] front e a = ap (λ z. X a ++ z) e ∙ append-nil (X a)
-listed X P item (v ∷ vs) front (f1, f2, e, one, all) a =
-    ap (λ z. X a ++ z) (e ∙ ap (λ z. z ++ f2) (item v f1 one)) ∙ ap (λ z. X a ++ token (Sign symbol.Comma) ∷ z) (listed X P item vs f2 all v)
-
 name_item : (v : Written) (f : List Part) → Accepts {s = OfName} (eat_sign symbol.Comma (name (λ y. give y))) v f → f ≡ token (Sign symbol.Comma) ∷ token (Name v) ∷ []
 name_item v f (r1, e1, (x, r2, e2, (e3, e4))) = rw (e1, e2, e4, e3) refl
 
@@ -77,12 +72,6 @@ mapping_item v f (r1, e1, (x, r2, e2, (r3, e3, (y, r4, e4, (e5, e6))))) = rw (e1
 
 cover_item : (v : tree.CoverTree) (f : List Part) → Accepts {s = OfCover} (call Cover (λ c. eat_sign symbol.Semicolon (give c))) v f → f ≡ site (phrase.Cover v) ∷ token (Sign symbol.Semicolon) ∷ []
 cover_item v f (x, r1, e1, (r2, e2, (e3, e4))) = rw (e1, e2, e4, e3) refl
-
--- items, each with a semicolon
-separated : {A : Type 0} (X : A → Part) (P : A → List Part → Type 0) → ((v : A) (f : List Part) → P v f → f ≡ X v ∷ token (Sign symbol.Semicolon) ∷ []) → (vs : List A) (front : List Part) → All P vs front → front ≡ each X vs
-unfolding each
-separated X P item [] front e = e
-separated X P item (v ∷ vs) front (f1, f2, e, one, all) = e ∙ ap (λ z. z ++ f2) (item v f1 one) ∙ ap (λ z. X v ∷ token (Sign symbol.Semicolon) ∷ z) (separated X P item vs f2 all)
 
 append_nil_to : (front : List Part) {side : List Part} → front ≡ side → front ++ [] ≡ side
 append_nil_to front e = append-nil front ∙ e
@@ -185,6 +174,11 @@ side_of MapAt t side (r1, e1, (u, r2, e2, (r3, e3, (a, r4, e4, (r5, e5, (b, r6, 
     rw (whole, e) statements.map_at
 side_of Sent t side (inl (r1, e1, (d, r2, e2, (r3, e3, (c, r4, e4, (e, e5)))))) = rw (e1, e2, e3, e4, e5, e) statements.object_to
 side_of Sent t side (inr (r1, e1, (u, r2, e2, (r3, e3, (f, r4, e4, (e, e5)))))) = rw (e1, e2, e3, e4, e5, e) statements.arrow_to
+side_of (Under First) t side (e, e1) = rw (e1, e) statements.not_under
+side_of (Under Second) t side (inl (r1, e1, (j, r2, e2, (e, e3)))) = rw (e1, e2, e3, e) statements.under
+side_of (Under Second) t side (inr (e, e1)) = rw (e1, e) statements.not_under
+side_of Step t side a = step_side t side a
+side_of (Statement v) t side a = statement_side v t side a
 
 -- ---- the other way
 
@@ -377,6 +371,11 @@ accepts_side Cover t side (sites.cover_by_none {x = x}) = (_, refl, (x, _, refl,
 accepts_side Cover t side (sites.cover_by {x = x} {f = f} {fs = fs}) =
     subst (λ z. Accepts (code Cover) (record { object = x; arrows = f ∷ fs }) z) (ap (λ z. token (Reserved word.Cover) ∷ token (Name x) ∷ token (Reserved word.By) ∷ z) (ap (λ z. site (phrase.ArrowName f) ∷ z) (append-nil (later_arrows fs)) ∙ sym (arrows_commas f fs)))
     (_, refl, (x, _, refl, (_, refl, inr (f, _, refl, (fs, later_arrows fs, [], refl, arrows_accepted fs, (refl, refl))))))
+accepts_side (Under First) t side statements.not_under = (refl, refl)
+accepts_side (Under Second) t side statements.not_under = inr (refl, refl)
+accepts_side (Under Second) t side (statements.under {j = j}) = inl (_, refl, (j, _, refl, (refl, refl)))
+accepts_side Step t side statements.step = step_accepts t
+accepts_side (Statement v) t side r = statement_accepts v t side r
 
 -- ---- a phrase of each kind
 
@@ -422,6 +421,9 @@ one_map_at : Derives (statement (phrase.MapAt (record { object = some_name; entr
 unfolding commas
 one_map_at = whole_statement statements.map_at (this (this (this (by_statement statements.by_name (this nothing) (this (whole_statement statements.by_name (this nothing)))))))
 
+one_step : Derives (statement (phrase.Step (record { rule = some_name; from = []; context = []; hypotheses = []; conclusion = tree.Truth; with_term = None })) ∷ []) (Name some_name ∷ Sign symbol.Colon ∷ Sign symbol.Bar ∷ Sign symbol.Arrow ∷ Reserved word.True ∷ [])
+one_step = whole_statement statements.step (this (this (by_term terms.no_variable nothing (this (this true_term)))))
+
 pub sample : {s : Sort} (K : Kind s) → (v : Tree s) × (xs : List Token) × Derives (part K v ∷ []) xs
 sample AnyType = (tree.One, _, whole_type types.product_alone one_type)
 sample ProductType = (tree.One, _, one_type)
@@ -449,3 +451,6 @@ sample Element = (tree.ByName some_name, Name some_name ∷ [], whole_statement 
 sample MapAt = (record { object = some_name; entries = record { from = tree.ByName some_name; to = tree.ByName some_name } ∷ [] }, Reserved word.At ∷ Name some_name ∷ Sign symbol.Colon ∷ Name some_name ∷ Sign symbol.Arrow ∷ Name some_name ∷ [], one_map_at)
 sample Sent = (tree.ObjectTo some_name some_name, Reserved word.At ∷ Name some_name ∷ Sign symbol.Colon ∷ Name some_name ∷ [], whole_statement statements.object_to (this (this (this (this nothing)))))
 sample Cover = (record { object = some_name; arrows = [] }, Reserved word.Cover ∷ Name some_name ∷ Reserved word.By ∷ Reserved word.None ∷ [], whole_site sites.cover_by_none (this (this (this (this nothing)))))
+sample (Under v) = (None, [], whole_statement statements.not_under nothing)
+sample Step = (_, _, one_step)
+sample (Statement v) = (tree.Hom some_name some_name, Reserved word.Hom ∷ Name some_name ∷ Name some_name ∷ [], whole_statement statements.hom (this (this (this nothing))))
