@@ -4,8 +4,8 @@ use Rattle.std.proofs.lemmas.List.{length-map}
 use Rattle.topos_text.specs.Tokens.{Token, Written, Place, token_of}
 use Rattle.topos_text.specs.declared.token.Token as lying
 use Rattle.topos_grammar.specs.Kinds.{Sort, Tree, Kind}
-use Rattle.topos_grammar.specs.Codes.{Class, Any, Is, Code, call, place, code}
-use Rattle.topos_grammar.specs.Reading.{Read, Whole, Stops, Reads, places, calls, calls_not}
+use Rattle.topos_grammar.specs.Codes.{Class, Any, Is, Code, call, place, numbered, code}
+use Rattle.topos_grammar.specs.Reading.{Read, Whole, Stops, Reads, places, numbers, calls, calls_not}
 use Rattle.topos_grammar.specs.Gives.{Fails, Misses}
 use Rattle.topos_grammar.specs.declared.stop.Stop.{Stop}
 use Rattle.topos_grammar.specs.declared.stop.Stop.TheVariants.{NoMemory, At}
@@ -72,3 +72,6 @@ shorter_by c toks rest v starts d =
     shorter : (front : List Token) → Is Any (front ++ []) → map token_of toks ≡ front ++ map token_of rest → length rest < length toks
     shorter [] (t, ts, e) is = absurd cc
     shorter (x ∷ xs) lead is = omega (arith, ap length is, length-append xs (map token_of rest), length-map toks token_of, length-map rest token_of)
+
+pub numbered_at : {s : Sort} {n : ℕ} {k : Written → Code s} {toks rest : List Token} {r : Read s} (h : (x : Written) × (toks ≡ Place n x ∷ rest)) → Reads (k h.0) rest r → Reads (numbered n k) toks r
+numbered_at {s} {n} {k} {toks} {rest} {r} h d = subst (λ z. Reads {s = s} (numbered n k) z r) (sym h.1) (numbers d)

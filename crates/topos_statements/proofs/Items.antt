@@ -1,16 +1,15 @@
 -- Phrases as items of lists.
-use Rattle.std.proofs.Common.{◌≡◌, ◌<◌, List, ◌∷◌, length, map, Result, Ok, Err, MatchResult, IfOk, refl}
+use Rattle.std.proofs.Common.{◌≡◌, ◌<◌, ◌⊎◌, inl, inr, List, ◌∷◌, length, map, Result, Ok, Err, MatchResult, IfOk, refl}
 use Rattle.topos_text.specs.declared.token.Token as lying
 use Rattle.topos_text.specs.Tokens.{Token, Written, Name, Place, token_of}
 use Rattle.topos_text.specs.Trees.{Binding, PlaceTree}
-use Rattle.topos_grammar.specs.Kinds.{Sort, Tree, Kind, OfStatement, ArrowName, SiteStatement, Cover, Topology, Section, MapAt, Sent, Step, Statement, Version}
-use Rattle.topos_grammar.specs.Codes.{Class, Any, Is, AnyName, AnyPlace, Code, name, bind, a_place, code, first_branch, other_branches}
-use Rattle.topos_grammar.specs.Reading.{Stops, Reads, names_not, places_not, eats, calls}
+use Rattle.topos_grammar.specs.Kinds.{Sort, Tree, Kind, OfEntry, OfMapping, ArrowName, SiteStatement, Cover, Topology, Section, MapAt, Sent, Step}
+use Rattle.topos_grammar.specs.Codes.{Any, Is, AnyName, AnyPlace, give, name, bind, a_place, entry, mapping, code}
+use Rattle.topos_grammar.specs.Reading.{Whole, gives, names_not, places_not, eats, calls}
 use Rattle.topos_grammar.specs.Gives.{Gives, Misses, Binds, Unbound}
 use Rattle.topos_grammar.specs.declared.stop.Stop.{Stop}
 use Rattle.topos_grammar.specs.declared.stop.Stop.TheVariants.{NoMemory, At}
 use Rattle.topos_grammar.proofs.Steps.{names_at}
-use Rattle.topos_grammar.proofs.Fronts.{choose_leads}
 use Rattle.topos_statements.specs.Passages.{Passage, Passes, Halts, GivesBy}
 use Rattle.topos_statements.proofs.Lists.{halts_at}
 use Rattle.topos_statements.proofs.Exits.{called, passes_phrase, halts_phrase, halts_kind, places_at, Starts, shorter_by}
@@ -79,3 +78,19 @@ sent_starts = (λ ts. (_, ts, refl), λ ts. (_, ts, refl))
 pub step_starts : Starts (code Step)
 unfolding code
 step_starts = λ r ts. (_, ts, refl)
+
+-- ---- parts that have a token
+
+pub passage_shorter : {X : Type 0} (o : Sort) (m : Passage (Tree o)) → Starts (m o (λ v. give v)) → (tree : X → Tree o) (rest : X → List lying.Token) (toks : List lying.Token) (r : Result X Stop) → Read tree (λ x. map token_of (rest x)) m (map token_of toks) r → IfOk r (λ x. length (rest x) < length toks)
+passage_shorter o m starts tree rest toks (Ok x) h = shorter_by (m o (λ v. give v)) toks (rest x) (tree x) starts (h.read o (λ v. give v) (Whole (tree x) (map token_of (rest x))) gives)
+passage_shorter o m starts tree rest toks (Err e) h = tt
+
+pub entry_starts : Starts {u = OfEntry} (entry (λ v. give v))
+entry_starts = λ x ts. (_, ts, refl)
+
+pub mapping_starts : Starts {u = OfMapping} (mapping (λ v. give v))
+mapping_starts = (λ ts h. some_element ts h, λ v e. absurd e)
+  where
+    some_element : (ts : List Token) → Is AnyName ts ⊎ Is AnyPlace ts → Is Any ts
+    some_element ts (inl (x, us, e)) = (_, us, e)
+    some_element ts (inr (n, x, us, e)) = (_, us, e)

@@ -1,18 +1,18 @@
 -- How the reading of a list follows from the reading of its items.
-use Rattle.std.proofs.Common.{◌≡◌, ℕ, ◌+◌, ◌<◌, List, [], ◌∷◌, ◌++◌, length, map, refl, sym, ap, subst, arith, append_assoc}
-use Rattle.std.proofs.lemmas.List.{append-nil, length-map, map_push}
+use Rattle.std.proofs.Common.{◌≡◌, ◌+◌, List, [], ◌∷◌, ◌++◌, length, map, sym, ap, subst, arith, append_assoc}
+use Rattle.std.proofs.lemmas.List.{append-nil, length-map}
 use Rattle.std.proofs.Math.Path.{fun_ext}
 use Rattle.topos_text.specs.declared.symbol.Symbol.TheVariants as symbol
 use Rattle.topos_text.specs.Tokens.{Token, Sign, token_of}
 use Rattle.topos_text.specs.declared.token.Token as lying
 use Rattle.topos_grammar.specs.Kinds.{Sort, Tree}
-use Rattle.topos_grammar.specs.Codes.{Class, Is, sign, Code, give, eat, loop, eat_sign}
+use Rattle.topos_grammar.specs.Codes.{Class, Is, sign, Code, give, loop, eat_sign}
 use Rattle.topos_grammar.specs.Reading.{Read, Whole, Stops, Reads, gives, eats_not, loops, loops_not, loops_end}
 use Rattle.topos_grammar.specs.Gives.{Misses}
 use Rattle.topos_grammar.specs.declared.stop.Stop.{Stop}
 use Rattle.topos_grammar.specs.declared.stop.Stop.TheVariants.{NoMemory, At}
 use Rattle.topos_grammar.proofs.Steps.{eats_at}
-use Rattle.topos_statements.specs.Passages.{Passage, Passes, Halts, several, each, braced}
+use Rattle.topos_statements.specs.Passages.{Passage, Passes, Halts, several, each}
 
 -- a passage stops where one of its parts does
 pub halts_from : {A B : Type 0} (e : Stop) (from : Passage A) (to : Passage B) (before toks : List Token) → ((s : Sort) (k : B → Code s) → (l : A → Code s) × ((rest : List Token) → Reads (from s l) before (Stops rest) → Reads (to s k) toks (Stops rest))) → Halts from before e → Halts to toks e

@@ -1,9 +1,10 @@
 -- What the functions of the parser give, whatever is read behind.
-use Rattle.std.specs.Prelude.{◌≡◌, ℕ, List, ◌∷◌, length, Result, Ok, Err}
+use Rattle.std.specs.Prelude.{◌≡◌, List, ◌∷◌, length, Result, Ok, Err}
 use Rattle.topos_text.specs.declared.symbol.Symbol.TheVariants as symbol
 use Rattle.topos_text.specs.Tokens.{Token}
+use Rattle.topos_text.specs.Trees.{Binding, TermTree}
 use Rattle.topos_grammar.specs.Kinds.{Sort, Tree}
-use Rattle.topos_grammar.specs.Codes.{Class, sign, Code, give, loop, eat_sign}
+use Rattle.topos_grammar.specs.Codes.{Class, sign, Code, give, loop, eat_sign, sequent, comprehension}
 use Rattle.topos_grammar.specs.Reading.{Read, Whole, Stops, Reads}
 use Rattle.topos_grammar.specs.declared.stop.Stop.{Stop}
 use Rattle.topos_grammar.specs.declared.stop.Stop.TheVariants.{NoMemory, At}
@@ -42,3 +43,10 @@ Stopped c toks (At left) = (rest : List Token) × Reads c toks (Stops rest) × (
 abbrev pub GivesBy : {X : Type 0} {u : Sort} → (X → Tree u) → (X → List Token) → Code u → List Token → Result X Stop → Type 0
 GivesBy tree rest c toks (Ok x) = Reads c toks (Whole (tree x) (rest x))
 GivesBy tree rest c toks (Err e) = Stopped c toks e
+
+-- context "|" term, and the same in braces
+abbrev pub sequent_of : Passage (List Binding × TermTree)
+sequent_of s k = sequent (λ g t. k (g, t))
+
+abbrev pub comprehension_of : Passage (List Binding × TermTree)
+comprehension_of s k = comprehension (λ g t. k (g, t))

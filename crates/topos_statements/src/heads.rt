@@ -2,12 +2,12 @@
 ghost use Rattle.std.specs.Prelude.{◌≡◌, ◌∷◌, map, MatchOption, MatchResult, MatchBool};
 ghost use Rattle.topos_text.specs.Tokens.{Written, token_of, Place, Reserved};
 ghost use Rattle.topos_text.specs.Views.{place_of};
-ghost use Rattle.topos_grammar.specs.Codes.{Is, the, AnyPlace, Numbered};
+ghost use Rattle.topos_grammar.specs.Codes.{Is, the, sign, AnyName, AnyPlace, Numbered};
 ghost use Rattle.topos_grammar.specs.Gives.{Misses};
 
 use topos_grammar::Stop;
-use topos_grammar::heads::after_word;
-use topos_text::{PlaceTree, Token, Word};
+use topos_grammar::heads::{after_symbol, after_word, name};
+use topos_text::{PlaceTree, Symbol, Token, Word};
 
 /// Whether the word stands in front.
 pub fn stands(tokens: &[Token<'_>], word: Word) -> bool
@@ -67,5 +67,36 @@ pub fn expect_number<'t, 'a>(tokens: &'t [Token<'a>], number: u32) -> Result<&'t
             }
         }
         None => Err(Stop::At(tokens.len())),
+    }
+}
+
+/// Whether the symbol stands in front.
+pub fn stands_symbol(tokens: &[Token<'_>], symbol: Symbol) -> bool
+    ensures { MatchBool result (Is (sign symbol) (map token_of tokens.now)) (Is (sign symbol) (map token_of tokens.now) → ⊥) }
+{
+    after_symbol(tokens, symbol).is_some()
+}
+
+/// Whether a name stands in front.
+pub fn stands_name(tokens: &[Token<'_>]) -> bool
+    ensures { MatchBool result (Is AnyName (map token_of tokens.now)) (Is AnyName (map token_of tokens.now) → ⊥) }
+{
+    name(tokens).is_some()
+}
+
+/// Whether a place stands in front.
+pub fn stands_place(tokens: &[Token<'_>]) -> bool
+    ensures { MatchBool result (Is AnyPlace (map token_of tokens.now)) (Is AnyPlace (map token_of tokens.now) → ⊥) }
+{
+    place(tokens).is_some()
+}
+
+/// The reserved word in front, and the tokens behind it.
+pub fn first_word<'t, 'a>(tokens: &'t [Token<'a>]) -> Option<(Word, &'t [Token<'a>])>
+    ensures { MatchOption result ((w : _) → Is (the w) (map token_of tokens.now) → ⊥) (λ r. map token_of tokens.now ≡ Reserved r.0 ∷ map token_of r.1.now) }
+{
+    match tokens.split_first() {
+        Some((Token::Word(word), rest)) => Some((*word, rest)),
+        _ => None,
     }
 }

@@ -1,7 +1,6 @@
 use Rattle.std.proofs.Common.{map}
-use Rattle.topos_text.specs.Tokens.{token_of, written}
-use Rattle.topos_text.specs.Views.{place_of, binding_of, term_of, arrow_of, site_of, cover_of, topology_of, entry_of, section_of, mapping_of, map_at_of, sent_of, step_of}
-use Rattle.topos_grammar.specs.Kinds.{AnyTerm, ArrowName, SiteStatement, Cover, Topology, Section, MapAt, Sent, Step}
+use Rattle.topos_text.specs.Tokens.{token_of}
+use Rattle.topos_text.specs.Views.{place_of}
 use Rattle.topos_statements.proofs.Items.{place_read}
 use Rattle.topos_statements.proofs.names.PlaceTreeItem.read.Goals as goal
 
