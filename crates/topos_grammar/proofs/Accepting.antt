@@ -8,8 +8,8 @@ use Rattle.topos_text.specs.Terms.{TermSide}
 use Rattle.topos_text.specs.SiteStatements.{SiteSide}
 use Rattle.topos_text.specs.Statements.{StatementSide}
 use Rattle.topos_text.specs.Documents.{Derives, nothing, this, by_type, by_term, by_site, by_statement}
-use Rattle.topos_grammar.specs.Kinds.{Sort, Tree, Kind, AnyType, ProductType, MoreFactors, PrefixType, AnyTerm, Disjunction, MoreDisjuncts, Conjunction, MoreConjuncts, Negation, BinderTerm, Comparison, Application, MoreArguments, Atom, Parentheses, Context, ArrowName, SiteStatement, Cover, part, Side, Covers, Topology, Section, Element, MapAt, Sent}
-use Rattle.topos_grammar.specs.Codes.{Code, give, eat, name, call, peek, loop, place}
+use Rattle.topos_grammar.specs.Kinds.{Sort, Tree, Kind, AnyType, ProductType, MoreFactors, PrefixType, AnyTerm, Disjunction, MoreDisjuncts, Conjunction, MoreConjuncts, Negation, BinderTerm, Comparison, Application, MoreArguments, Atom, Parentheses, Context, ArrowName, SiteStatement, Cover, part, Side, Covers, Topology, Section, Element, MapAt, Sent, Under, Step, Statement, version_number}
+use Rattle.topos_grammar.specs.Codes.{Code, give, eat, name, call, peek, loop, place, numbered}
 
 -- the parts are those of the items, one behind the other
 abbrev pub All : {A : Type 0} → (A → List Part → Type 0) → List A → List Part → Type 0
@@ -22,6 +22,7 @@ Accepts (give v) t side = (t ≡ v) × (side ≡ [])
 Accepts (eat u k) t side = (rest : List Part) × (side ≡ token u ∷ rest) × Accepts k t rest
 Accepts (name k) t side = (x : Written) × (rest : List Part) × (side ≡ token (Name x) ∷ rest) × Accepts (k x) t rest
 Accepts (place k) t side = (n : ℕ) × (x : Written) × (rest : List Part) × (side ≡ token (Place n x) ∷ rest) × Accepts (k n x) t rest
+Accepts (numbered n k) t side = (x : Written) × (rest : List Part) × (side ≡ token (Place n x) ∷ rest) × Accepts (k x) t rest
 Accepts (call {u = u} K k) t side = (v : Tree u) × (rest : List Part) × (side ≡ part K v ∷ rest) × Accepts (k v) t rest
 Accepts (peek C a b) t side = Accepts a t side ⊎ Accepts b t side
 Accepts (loop {u = u} C item k) t side = (vs : List (Tree u)) × (front : List Part) × (rest : List Part) × (side ≡ front ++ rest) × All (λ v z. Accepts item v z) vs front × Accepts (k vs) t rest
@@ -54,6 +55,9 @@ derive_by Section v r d f = by_statement r d f
 derive_by Element v r d f = by_statement r d f
 derive_by MapAt v r d f = by_statement r d f
 derive_by Sent v r d f = by_statement r d f
+derive_by (Under w) v r d f = by_statement r d f
+derive_by Step v r d f = by_statement r d f
+derive_by (Statement w) v r d f = by_statement r d f
 
 -- how many steps a derivation has
 unfoldable pub size : {ps : List Part} {xs : List Token} → Derives ps xs → ℕ
@@ -134,6 +138,9 @@ undone n Section v ps zs w = undone_statement n Section v (phrase.Section v) ps 
 undone n Element v ps zs w = undone_statement n Element v (phrase.Element v) ps zs refl (λ side r. r) w.0 w.1
 undone n MapAt v ps zs w = undone_statement n MapAt v (phrase.MapAt v) ps zs refl (λ side r. r) w.0 w.1
 undone n Sent v ps zs w = undone_statement n Sent v (phrase.Sent v) ps zs refl (λ side r. r) w.0 w.1
+undone n (Under z) v ps zs w = undone_statement n (Under z) v (phrase.Under (version_number z) v) ps zs refl (λ side r. r) w.0 w.1
+undone n Step v ps zs w = undone_statement n Step v (phrase.Step v) ps zs refl (λ side r. r) w.0 w.1
+undone n (Statement z) v ps zs w = undone_statement n (Statement z) v (phrase.Statement (version_number z) v) ps zs refl (λ side r. r) w.0 w.1
 
 -- a derivation that begins with a token, undone
 pub record Taken (n : ℕ) (u : Token) (ps : List Part) (zs : List Token) : Type 0 where

@@ -1,20 +1,22 @@
 -- What derives is read, whatever follows that may stand behind it.
 use Rattle.std.proofs.Common.{◌≡◌, ◌⊎◌, inl, inr, ℕ, zero, suc, ◌<◌, ◌≤◌, Bool, true, false, List, [], ◌∷◌, ◌++◌, refl, sym, ap, subst, ◌∙◌, arith, append_assoc}
+use Rattle.topos_text.specs.declared.word.Word.{Word}
 use Rattle.topos_text.specs.declared.word.Word.TheVariants as word
 use Rattle.topos_text.specs.declared.symbol.Symbol.TheVariants as symbol
 use Rattle.topos_text.specs.Tokens.{Token, Written, Name, Reserved, Sign, Place}
-use Rattle.topos_text.specs.Trees.{TypeTree, TermTree, Binding, Binder, Forall, Exists, Unique, Fun}
+use Rattle.topos_text.specs.Trees.{TypeTree, TermTree, StatementTree, Binding, Binder, Forall, Exists, Unique, Fun, Construction, Fork, Question, Extension}
 use Rattle.topos_text.specs.Trees as tree
 use Rattle.topos_text.specs.Phrases.{Part, token}
 use Rattle.topos_text.specs.Terms.{ends_with_body}
 use Rattle.topos_text.specs.Documents.{Derives}
-use Rattle.topos_grammar.specs.Kinds.{Sort, OfBinding, OfContext, Tree, Kind, AnyType, ProductType, MoreFactors, PrefixType, AnyTerm, Disjunction, MoreDisjuncts, Conjunction, MoreConjuncts, Negation, BinderTerm, Comparison, Application, MoreArguments, Atom, Parentheses, Context, part, Side, ArrowName, SiteStatement, Cover, Covers, Topology, Section, Element, MapAt, Sent}
-use Rattle.topos_grammar.specs.Codes.{AnyName, Class, This, Is, the, sign, binders, Code, give, eat, name, call, peek, loop, code, bound, bind, eat_sign, place}
+use Rattle.topos_grammar.specs.Kinds.{Sort, OfBinding, OfContext, OfStep, Version, Tree, Kind, AnyType, ProductType, MoreFactors, PrefixType, AnyTerm, Disjunction, MoreDisjuncts, Conjunction, MoreConjuncts, Negation, BinderTerm, Comparison, Application, MoreArguments, Atom, Parentheses, Context, part, Side, ArrowName, SiteStatement, Cover, Covers, Topology, Section, Element, MapAt, Sent, Under, Step, Statement, First, Second}
+use Rattle.topos_grammar.specs.Codes.{AnyName, Class, This, Is, the, sign, binders, Code, give, eat, name, call, peek, loop, code, bound, bind, eat_sign, place, numbered, Branch, choose, section_words, site_words, first_branch, other_branches, presheaf, map_of, construct, forked, image, empty, sheafify, sheaf, hom, build, subobject, let_be, asked, valid, why, derive, local, category, category_functor, extended}
 use Rattle.topos_grammar.specs.Follows.{type_level, level, limit, Follow}
-use Rattle.topos_grammar.specs.Reading.{Whole, Reading, gives, eats, names, calls, peeks, peeks_not, loops, loops_end, places}
+use Rattle.topos_grammar.specs.Reading.{Whole, Reading, gives, eats, names, calls, peeks, peeks_not, loops, loops_end, places, numbers}
 use Rattle.topos_grammar.proofs.Accepting.{Accepts, All, Sized, undone, taken, none, cut_at, size}
 use Rattle.topos_grammar.proofs.Sides.{accepts_side, more_disjuncts, more_conjuncts, after_disjunction}
-use Rattle.topos_grammar.proofs.Fronts.{begins_atom, BeginsTerm, Leads, sized_by, leads_to, leads_always}
+use Rattle.topos_grammar.proofs.Fronts.{begins_atom, BeginsTerm, Leads, sized_by, leads_to, leads_always, choose_leads}
+use Rattle.topos_grammar.proofs.StatementSides.{Each, after_terms, after_places}
 
 -- what may stand behind a loop
 abbrev pub Ends : {A : Type 0} {s : Sort} → (A → Code s) → (Tree s → List Token → Type 0) → List Token → Type 0
@@ -26,6 +28,7 @@ Fits (give v) F = Unit {0}
 Fits (eat u k) F = Fits k F
 Fits (name k) F = (x : Written) → Fits (k x) F
 Fits (place k) F = (n : ℕ) (x : Written) → Fits (k n x) F
+Fits (numbered n k) F = (x : Written) → Fits (k x) F
 Fits (call {u = u} K k) F = (v : Tree u) → Fits (k v) F × Leads (k v) (Follow K v) (λ t. (ys : List Token) → F t ys → Follow K v ys)
 Fits (peek C a b) F = Fits a F × Fits b F × Leads a (Is C) (λ t. (ys : List Token) → F t ys → Is C ys) × Leads b (λ ts. Is C ts → ⊥) (λ t. (ys : List Token) → F t ys → Is C ys → ⊥)
 Fits (loop {u = u} C item k) F = ((vs : List (Tree u)) → Fits (k vs) F × Leads (k vs) (λ ts. Is C ts → ⊥) (λ t. (ys : List Token) → F t ys → Is C ys → ⊥)) × Leads item (Is C) (λ a. ⊥) × Fits item (λ a ys. Is C ys ⊎ Ends k F ys)
@@ -128,6 +131,136 @@ arrow_not_none : (ts : List Token) → Is (the word.Id) ts ⊎ Is AnyName ts →
 arrow_not_none ts (inl h) is = cc
 arrow_not_none ts (inr h) is = cc
 
+-- no statement of a site, no entry and no step begins with the closing brace
+closed_section : (ts : List Token) → Is section_words (Sign symbol.CloseBrace ∷ ts) → ⊥
+closed_section ts (inl is) = cc
+closed_section ts (inr is) = cc
+
+closed_site : (ts : List Token) → Is site_words (Sign symbol.CloseBrace ∷ ts) → ⊥
+closed_site ts (inl is) = cc
+closed_site ts (inr (inl is)) = cc
+closed_site ts (inr (inr is)) = cc
+
+term_not_arrow : (ts : List Token) → BeginsTerm ts → Is (sign symbol.Arrow) ts → ⊥
+term_not_arrow ts (inl h) is = cc
+term_not_arrow ts (inr (inl (inl h))) is = cc
+term_not_arrow ts (inr (inl (inr (inl h)))) is = cc
+term_not_arrow ts (inr (inl (inr (inr (inl h))))) is = cc
+term_not_arrow ts (inr (inl (inr (inr (inr h))))) is = cc
+term_not_arrow ts (inr (inr h)) (us, e) = let bad : false ≡ true = subst (λ z. begins_atom z ≡ true) e h in absurd cc
+
+-- ---- statements
+
+-- no branch has the word of another
+abbrev pub Differ : {s : Sort} → List (Branch s) → Type 0
+Differ [] = Unit {0}
+Differ (b ∷ bs) = Each (λ c. c.0 ≡ b.0 → ⊥) bs × Differ bs
+
+others_lead : {s : Sort} (w : Word) (c : Branch s) (cs : List (Branch s)) (E : Tree s → Type 0) → Each (λ d. d.0 ≡ w → ⊥) (c ∷ cs) → Leads (choose c cs) (λ ts. Is (the w) ts → ⊥) E
+others_lead {s} w c cs E h = choose_leads c cs (λ ts. Is (the w) ts → ⊥) E (all (c ∷ cs) h)
+  where
+    not_it : (d : Word) → (d ≡ w → ⊥) → (ts : List Token) → Is (the w) (Reserved d ∷ ts) → ⊥
+    not_it d h ts is = h cc
+
+    all : (ds : List (Branch s)) → Each (λ d. d.0 ≡ w → ⊥) ds → Each (λ d. (ts : List Token) → Is (the w) (Reserved d.0 ∷ ts) → ⊥) ds
+    all [] h = tt
+    all (d ∷ ds) h = (not_it d.0 h.0, all ds h.1)
+
+choose_fits : {s : Sort} (b : Branch s) (bs : List (Branch s)) (F : Tree s → List Token → Type 0) → Each (λ c. Fits c.1 F) (b ∷ bs) → Differ (b ∷ bs) → Fits (choose b bs) F
+unfolding choose
+choose_fits b [] F h d = h.0
+choose_fits b (c ∷ cs) F h d = (h.0, choose_fits c cs F h.1 d.1, λ ts. (ts, refl), others_lead b.0 c cs _ d.0)
+
+semicolon_term : (ys : List Token) → Is (sign symbol.Semicolon) ys → 5 < level ys
+semicolon_term ys is = at_level 5 6 (Sign symbol.Semicolon) ys is (λ ts. refl) (omega arith)
+
+abbrev Ended : StatementTree → List Token → Type 0
+Ended t ts = Is (sign symbol.Semicolon) ts
+
+presheaf_fits : Fits presheaf Ended
+presheaf_fits = λ x. ((λ d. ((λ ss. (tt, closed_section)), (λ ts h. h, λ v e. absurd e), λ c. (tt, λ ts. (ts, refl)))), ((λ ss. (tt, closed_section)), (λ ts h. h, λ v e. absurd e), λ c. (tt, λ ts. (ts, refl))), λ ts. (ts, refl), λ ts is. cc)
+
+map_of_fits : Fits map_of Ended
+map_of_fits = λ m x y. ((λ ps. (tt, λ ts is. cc)), (λ ts h. h, λ v e. absurd e), λ c. (tt, λ ts. (ts, refl)))
+
+construct_fits : (c : Construction) → Fits (construct c) Ended
+construct_fits c = λ x y z p q. tt
+
+forked_fits : (f : Fork) → Fits (forked f) Ended
+forked_fits f = λ m n z i. tt
+
+image_fits : Fits image Ended
+image_fits = λ m z e i. tt
+
+empty_fits : Fits empty Ended
+empty_fits = λ z. tt
+
+sheafify_fits : (v : Version) → Fits (sheafify v) Ended
+sheafify_fits v = λ j. ((λ x a e. tt), λ x ts is. cc)
+
+sheaf_fits : (v : Version) → Fits (sheaf v) Ended
+sheaf_fits v = λ j. ((λ x. tt), λ x ts is. cc)
+
+hom_fits : Fits hom Ended
+hom_fits = λ x y. tt
+
+build_fits : (v : Version) → Fits (build v) Ended
+build_fits v = λ j. ((λ e T. ((λ x y. tt), λ ts. omega arith)), λ x ts is. cc)
+
+subobject_fits : (v : Version) → Fits (subobject v) Ended
+subobject_fits v = λ j. ((λ x y T. ((λ t. ((λ i. tt), λ ts. omega arith)), λ ts. omega arith)), λ x ts is. cc)
+
+let_be_fits : (v : Version) → Fits (let_be v) Ended
+let_be_fits v = λ j. ((λ m x T. ((λ t. (tt, λ ys h. semicolon_term ys h)), λ ts. omega arith)), λ x ts is. cc)
+
+asked_fits : (q : Question) (v : Version) → Fits (asked q v) Ended
+asked_fits q v = λ j. ((λ g. ((λ t. (tt, λ ts. omega arith)), λ ts. (ts, refl))), λ ts is. cc)
+
+valid_fits : (v : Version) → Fits (valid v) Ended
+valid_fits v = λ j. ((λ g. ((λ t. (tt, λ ys h. semicolon_term ys h)), λ ts. (ts, refl))), (λ ts h is. cc, λ g e ts is. cc))
+
+why_fits : (v : Version) → Fits (why v) Ended
+why_fits v = λ j. ((λ u n x g. ((λ t. (tt, λ ts. omega arith)), λ ts. (ts, refl))), λ x ts is. cc)
+
+derive_fits : (v : Version) → Fits (derive v) Ended
+derive_fits v = λ j. (((λ ps. (tt, λ ts is. cc)), (λ ts h. h, λ v e. absurd e), λ c. (tt, λ ts. (ts, refl))), λ ts is. cc)
+
+local_fits : Fits local Ended
+local_fits = λ m. ((λ n. tt), tt, λ ts. (ts, refl), λ ys h is. cc)
+
+category_fits : Fits category Ended
+category_fits = λ d. ((λ ss. (tt, closed_site)), (λ ts h. h, λ v e. absurd e), λ c. (tt, λ ts. (ts, refl)))
+
+category_functor_fits : Fits category_functor Ended
+category_functor_fits = λ f. ((λ d. ((λ ss. (tt, closed_section)), (λ ts h. h, λ v e. absurd e), λ c. (tt, λ ts. (ts, refl)))), (λ x y. tt), λ ts. (ts, refl), λ x ts is. cc)
+
+extended_fits : (x : Extension) → Fits (extended x) Ended
+extended_fits x = λ f p l e. tt
+
+pub statements_differ : (v : Version) → Differ (first_branch ∷ other_branches v)
+statements_differ v = ((λ e. cc, (λ e. cc, (λ e. cc, (λ e. cc, (λ e. cc, (λ e. cc, (λ e. cc, (λ e. cc, (λ e. cc, (λ e. cc, (λ e. cc, (λ e. cc, (λ e. cc, (λ e. cc, (λ e. cc, (λ e. cc, (λ e. cc, (λ e. cc, (λ e. cc, (λ e. cc, (λ e. cc, (λ e. cc, (λ e. cc, (λ e. cc, (λ e. cc, tt))))))))))))))))))))))))), ((λ e. cc, (λ e. cc, (λ e. cc, (λ e. cc, (λ e. cc, (λ e. cc, (λ e. cc, (λ e. cc, (λ e. cc, (λ e. cc, (λ e. cc, (λ e. cc, (λ e. cc, (λ e. cc, (λ e. cc, (λ e. cc, (λ e. cc, (λ e. cc, (λ e. cc, (λ e. cc, (λ e. cc, (λ e. cc, (λ e. cc, (λ e. cc, tt)))))))))))))))))))))))), ((λ e. cc, (λ e. cc, (λ e. cc, (λ e. cc, (λ e. cc, (λ e. cc, (λ e. cc, (λ e. cc, (λ e. cc, (λ e. cc, (λ e. cc, (λ e. cc, (λ e. cc, (λ e. cc, (λ e. cc, (λ e. cc, (λ e. cc, (λ e. cc, (λ e. cc, (λ e. cc, (λ e. cc, (λ e. cc, (λ e. cc, tt))))))))))))))))))))))), ((λ e. cc, (λ e. cc, (λ e. cc, (λ e. cc, (λ e. cc, (λ e. cc, (λ e. cc, (λ e. cc, (λ e. cc, (λ e. cc, (λ e. cc, (λ e. cc, (λ e. cc, (λ e. cc, (λ e. cc, (λ e. cc, (λ e. cc, (λ e. cc, (λ e. cc, (λ e. cc, (λ e. cc, (λ e. cc, tt)))))))))))))))))))))), ((λ e. cc, (λ e. cc, (λ e. cc, (λ e. cc, (λ e. cc, (λ e. cc, (λ e. cc, (λ e. cc, (λ e. cc, (λ e. cc, (λ e. cc, (λ e. cc, (λ e. cc, (λ e. cc, (λ e. cc, (λ e. cc, (λ e. cc, (λ e. cc, (λ e. cc, (λ e. cc, (λ e. cc, tt))))))))))))))))))))), ((λ e. cc, (λ e. cc, (λ e. cc, (λ e. cc, (λ e. cc, (λ e. cc, (λ e. cc, (λ e. cc, (λ e. cc, (λ e. cc, (λ e. cc, (λ e. cc, (λ e. cc, (λ e. cc, (λ e. cc, (λ e. cc, (λ e. cc, (λ e. cc, (λ e. cc, (λ e. cc, tt)))))))))))))))))))), ((λ e. cc, (λ e. cc, (λ e. cc, (λ e. cc, (λ e. cc, (λ e. cc, (λ e. cc, (λ e. cc, (λ e. cc, (λ e. cc, (λ e. cc, (λ e. cc, (λ e. cc, (λ e. cc, (λ e. cc, (λ e. cc, (λ e. cc, (λ e. cc, (λ e. cc, tt))))))))))))))))))), ((λ e. cc, (λ e. cc, (λ e. cc, (λ e. cc, (λ e. cc, (λ e. cc, (λ e. cc, (λ e. cc, (λ e. cc, (λ e. cc, (λ e. cc, (λ e. cc, (λ e. cc, (λ e. cc, (λ e. cc, (λ e. cc, (λ e. cc, (λ e. cc, tt)))))))))))))))))), ((λ e. cc, (λ e. cc, (λ e. cc, (λ e. cc, (λ e. cc, (λ e. cc, (λ e. cc, (λ e. cc, (λ e. cc, (λ e. cc, (λ e. cc, (λ e. cc, (λ e. cc, (λ e. cc, (λ e. cc, (λ e. cc, (λ e. cc, tt))))))))))))))))), ((λ e. cc, (λ e. cc, (λ e. cc, (λ e. cc, (λ e. cc, (λ e. cc, (λ e. cc, (λ e. cc, (λ e. cc, (λ e. cc, (λ e. cc, (λ e. cc, (λ e. cc, (λ e. cc, (λ e. cc, (λ e. cc, tt)))))))))))))))), ((λ e. cc, (λ e. cc, (λ e. cc, (λ e. cc, (λ e. cc, (λ e. cc, (λ e. cc, (λ e. cc, (λ e. cc, (λ e. cc, (λ e. cc, (λ e. cc, (λ e. cc, (λ e. cc, (λ e. cc, tt))))))))))))))), ((λ e. cc, (λ e. cc, (λ e. cc, (λ e. cc, (λ e. cc, (λ e. cc, (λ e. cc, (λ e. cc, (λ e. cc, (λ e. cc, (λ e. cc, (λ e. cc, (λ e. cc, (λ e. cc, tt)))))))))))))), ((λ e. cc, (λ e. cc, (λ e. cc, (λ e. cc, (λ e. cc, (λ e. cc, (λ e. cc, (λ e. cc, (λ e. cc, (λ e. cc, (λ e. cc, (λ e. cc, (λ e. cc, tt))))))))))))), ((λ e. cc, (λ e. cc, (λ e. cc, (λ e. cc, (λ e. cc, (λ e. cc, (λ e. cc, (λ e. cc, (λ e. cc, (λ e. cc, (λ e. cc, (λ e. cc, tt)))))))))))), ((λ e. cc, (λ e. cc, (λ e. cc, (λ e. cc, (λ e. cc, (λ e. cc, (λ e. cc, (λ e. cc, (λ e. cc, (λ e. cc, (λ e. cc, tt))))))))))), ((λ e. cc, (λ e. cc, (λ e. cc, (λ e. cc, (λ e. cc, (λ e. cc, (λ e. cc, (λ e. cc, (λ e. cc, (λ e. cc, tt)))))))))), ((λ e. cc, (λ e. cc, (λ e. cc, (λ e. cc, (λ e. cc, (λ e. cc, (λ e. cc, (λ e. cc, (λ e. cc, tt))))))))), ((λ e. cc, (λ e. cc, (λ e. cc, (λ e. cc, (λ e. cc, (λ e. cc, (λ e. cc, (λ e. cc, tt)))))))), ((λ e. cc, (λ e. cc, (λ e. cc, (λ e. cc, (λ e. cc, (λ e. cc, (λ e. cc, tt))))))), ((λ e. cc, (λ e. cc, (λ e. cc, (λ e. cc, (λ e. cc, (λ e. cc, tt)))))), ((λ e. cc, (λ e. cc, (λ e. cc, (λ e. cc, (λ e. cc, tt))))), ((λ e. cc, (λ e. cc, (λ e. cc, (λ e. cc, tt)))), ((λ e. cc, (λ e. cc, (λ e. cc, tt))), ((λ e. cc, (λ e. cc, tt)), ((λ e. cc, tt), (tt, tt))))))))))))))))))))))))))
+
+statement_fits : (v : Version) → Fits (choose first_branch (other_branches v)) Ended
+statement_fits v = choose_fits first_branch (other_branches v) Ended (presheaf_fits, (map_of_fits, (construct_fits tree.ProductOf, (forked_fits tree.EqualizerOf, (construct_fits tree.PullbackOf, (image_fits, (empty_fits, (construct_fits tree.CoproductOf, (forked_fits tree.CoequalizerOf, (construct_fits tree.PushoutOf, (sheafify_fits v, (sheaf_fits v, (hom_fits, (build_fits v, (subobject_fits v, (let_be_fits v, (asked_fits tree.Show v, (asked_fits tree.Classify v, (valid_fits v, (why_fits v, (derive_fits v, (local_fits, (category_fits, (category_functor_fits, (extended_fits tree.Lan, (extended_fits tree.Ran, tt)))))))))))))))))))))))))) (statements_differ v)
+
+hypotheses_end : (r : Written) (ps : List tree.PlaceTree) (g : List Binding) (t : TermTree) (ys : List Token) → Is (sign symbol.Comma) ys ⊎ Ends {A = List TermTree} {s = OfStep} (λ ts. after_terms r ps g (t ∷ ts)) (Follow Step) ys → 5 < level ys
+hypotheses_end r ps g t ys (inl is) = at_level 5 6 (Sign symbol.Comma) ys is (λ ts. refl) (omega arith)
+hypotheses_end r ps g t ys (inr (ts, v, side, n, xs, zs, acc, w, f, e)) = subst (λ z. 5 < level z) (sym e) (leads_to {s = OfStep} (after_terms r ps g (t ∷ ts)) (λ z. 5 < level z) (Follow Step) v side n xs zs (λ us. omega arith) acc w f)
+
+concluded : (r : Written) (ps : List tree.PlaceTree) (g : List Binding) (hs : List TermTree) → Fits (after_terms r ps g hs) (Follow Step)
+concluded r ps g hs = λ t. (((λ u. (tt, λ ys h. semicolon_term ys h)), tt, λ ts. (ts, refl), λ ys h is. cc), (λ ts. omega arith, λ ys h. semicolon_term ys h))
+
+step_fits : (r : Written) (ps : List tree.PlaceTree) → Fits (after_places r ps) (Follow Step)
+step_fits r ps = λ g. (
+  (
+    concluded r ps g [],
+    (λ t. (((λ ts. (concluded r ps g (t ∷ ts), λ us is. cc)), λ us. (us, refl), λ u. (tt, λ ys h. hypotheses_end r ps g t ys h)), (λ us. omega arith, λ us. omega arith))),
+    λ ts. (ts, refl),
+    (λ ts h is. term_not_arrow ts h is, λ v e. absurd e),
+  ),
+  λ ts. (ts, refl),
+)
+
 fits_of : {s : Sort} (K : Kind s) → Fits (code K) (Follow K)
 unfolding code ends_with_body
 fits_of AnyType = λ S. (((λ T. (tt, λ ys h. h)), tt, λ ts. (ts, refl), λ ys h is. not_type 2 2 (Sign symbol.Arrow) ys h is (λ ts. refl) (omega arith)), (λ ts. omega arith, λ ys h. omega (arith, h)))
@@ -215,7 +348,7 @@ fits_of Parentheses = (
   (λ ts h. term_not_close ts h, λ v e. absurd e),
 )
 fits_of Context = (
-  (λ x T. (((λ vs. (tt, λ ys h is. cc)), λ ts. (ts, refl), item_fits (record { variable = x; type = T })), (λ ts is. comma_type ts is, λ ts. (ts, refl), λ ys h. bar_type ys h))),
+  (λ x T. (((λ vs. (tt, λ ys h is. cc)), λ ts. (ts, refl), item_fits (record { variable = x; type = T })), (λ ts. omega arith, λ ys h. bar_type ys h))),
   tt,
   λ x ts. (x, ts, refl),
   λ ys h is. cc,
@@ -234,7 +367,7 @@ fits_of SiteStatement = (
 )
 fits_of Cover = λ x. (
   tt,
-  (λ f. (((λ fs. (tt, λ ys h is. cc)), λ ts. (ts, refl), λ g. (tt, λ ys h. tt)), (λ ts h. tt, λ ts. (ts, refl), λ ys h. tt))),
+  (λ f. (((λ fs. (tt, λ ys h is. cc)), λ ts. (ts, refl), λ g. (tt, λ ys h. tt)), (λ ts. tt, λ ys h. tt))),
   λ ts. (ts, refl),
   (λ ts h is. arrow_not_none ts h is, λ v e. absurd e),
 )
@@ -242,7 +375,7 @@ fits_of Covers = (
   tt,
   ((λ cs. (tt, λ ys h is. h.1 is)), (λ ts h. h, λ v e. absurd e), λ c. (tt, λ ts. (ts, refl))),
   λ ts. (ts, refl),
-  (λ ts h is. cc, (λ ts h. h, λ v e. absurd e), λ ys h is. h.0 is),
+  ((λ ts h is. cc, λ v e. absurd e), λ ys h is. h.0 is),
 )
 fits_of Topology = λ j. (tt, ((λ cs. (tt, λ ts is. cc)), (λ ts h. h, λ v e. absurd e), λ c. (tt, λ ts. (ts, refl))), λ ts. (ts, refl), λ ts is. cc)
 fits_of Section = (
@@ -253,12 +386,21 @@ fits_of Section = (
 )
 fits_of Element = ((λ x. tt), (λ n x. tt), λ x ts. (x, ts, refl), λ n x ts is. cc)
 fits_of MapAt = λ u a.
-    ((λ b. (((λ es. (tt, λ ys h is. cc)), λ ts. (ts, refl), λ c. ((λ d. (tt, λ ys g. tt)), λ ts. tt)), (λ ts h. tt, λ ts. (ts, refl), λ ys h. tt))), λ ts. tt)
+    ((λ b. (((λ es. (tt, λ ys h is. cc)), λ ts. (ts, refl), λ c. ((λ d. (tt, λ ys g. tt)), λ ts. tt)), (λ ts. tt, λ ys h. tt))), λ ts. tt)
 fits_of Sent = ((λ d c. tt), (λ u f. (tt, λ ys h. tt)), λ ts. (ts, refl), λ ts is. cc)
+fits_of (Under First) = tt
+fits_of (Under Second) = ((λ j. tt), tt, λ ts. (ts, refl), λ ys h is. h is)
+fits_of Step = λ r. (
+  (λ n x. ((λ ps. (step_fits r (record { number = n; written = x } ∷ ps), λ ts is. cc)), λ ts. (ts, refl), λ m y. tt)),
+  step_fits r [],
+  λ n x ts. (n, x, ts, refl),
+  λ ts is. cc,
+)
+fits_of (Statement v) = statement_fits v
 
 -- ---- what derives is read
 
-abbrev CompleteAll : ℕ → Type 1
+abbrev pub CompleteAll : ℕ → Type 1
 CompleteAll n = (s : Sort) (c : Code s) (F : Tree s → List Token → Type 0) (v : Tree s) (side : List Part) (xs zs : List Token) → Fits c F → Accepts c v side → Sized n side xs → F v zs → Reading s c (xs ++ zs) (Whole v zs)
 
 -- items behind an item
@@ -295,6 +437,9 @@ read_code n ih {s = s} (name k) F v side xs zs fits (x, rest, e, acc) w follows 
 read_code n ih {s = s} (place k) F v side xs zs fits (i, x, rest, e, acc) w follows =
     let t = taken n (Place i x) rest xs (sized_by n side (token (Place i x) ∷ rest) xs e w) in
     subst (λ z. Reading s (place k) (z ++ zs) (Whole v zs)) (sym t.parts) (places (ih t.less t.is_less s (k i x) F v rest t.rest zs (fits i x) acc t.others follows))
+read_code n ih {s = s} (numbered i k) F v side xs zs fits (x, rest, e, acc) w follows =
+    let t = taken n (Place i x) rest xs (sized_by n side (token (Place i x) ∷ rest) xs e w) in
+    subst (λ z. Reading s (numbered i k) (z ++ zs) (Whole v zs)) (sym t.parts) (numbers (ih t.less t.is_less s (k x) F v rest t.rest zs (fits x) acc t.others follows))
 read_code n ih {s = s} (call {u = r} K k) F v side xs zs fits (a, rest, e, acc) w follows =
     let u = undone n K a rest xs (sized_by n side (part K a ∷ rest) xs e w) in
     subst (λ z. Reading s (call K k) z (Whole v zs)) (sym (append_assoc u.front u.rest zs) ∙ ap (λ z. z ++ zs) (sym u.parts))
@@ -314,7 +459,7 @@ read_code n ih {s = s} (loop {u = u} C item k) F v side xs zs fits (vs, front, r
     (leads_to (k vs) (λ ts. Is C ts → ⊥) F v rest n c.rest zs (fits.0 vs).1 acc c.others follows)
     (vs, v, rest, n, c.rest, zs, acc, c.others, follows, refl))
 
-complete_all : (n : ℕ) → CompleteAll n
+pub complete_all : (n : ℕ) → CompleteAll n
 complete_all zero s c F v side xs zs fits acc w follows = read_code zero (λ m e. absurd (omega (arith, e))) c F v side xs zs fits acc w follows
 complete_all (suc n) s c F v side xs zs fits acc w follows = read_code (suc n) (λ m e. subst CompleteAll (same m e) (complete_all n)) c F v side xs zs fits acc w follows
   where

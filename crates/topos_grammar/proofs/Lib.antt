@@ -1,4 +1,6 @@
 pub mod Accepting
+pub mod ItemLists
+pub mod StatementSides
 pub mod Sides
 pub mod Meaning
 pub mod Fronts
@@ -6,5 +8,6 @@ pub mod Completeness
 pub mod Uniqueness
 pub mod Bodies
 pub mod Phrases
+pub mod Documents
 pub mod Steps
 pub mod TermSteps

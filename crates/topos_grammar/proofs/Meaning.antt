@@ -6,8 +6,8 @@ use Rattle.topos_text.specs.Phrases.{Part, token}
 use Rattle.topos_text.specs.Documents.{Derives, nothing, this}
 use Rattle.topos_text.proofs.DerivationParts.{joined}
 use Rattle.topos_grammar.specs.Kinds.{Sort, Tree, Kind, part}
-use Rattle.topos_grammar.specs.Codes.{Class, Code, give, eat, name, call, peek, loop, code, place}
-use Rattle.topos_grammar.specs.Reading.{Read, Whole, Stops, Reading, gives, eats, eats_not, names, names_not, calls, calls_not, peeks, peeks_not, loops, loops_not, loops_end, places, places_not}
+use Rattle.topos_grammar.specs.Codes.{Class, Code, give, eat, name, call, peek, loop, code, place, numbered}
+use Rattle.topos_grammar.specs.Reading.{Read, Whole, Stops, Reading, gives, eats, eats_not, names, names_not, calls, calls_not, peeks, peeks_not, loops, loops_not, loops_end, places, places_not, numbers, numbers_not}
 use Rattle.topos_grammar.proofs.Accepting.{Accepts, derive_by}
 use Rattle.topos_grammar.proofs.Sides.{side_of, sample}
 
@@ -49,6 +49,7 @@ ended (give v) = record { tree = v; side = []; toks = []; accepts = (refl, refl)
 ended (eat u k) = let e = ended k in record { tree = e.tree; side = token u ∷ e.side; toks = u ∷ e.toks; accepts = (e.side, refl, e.accepts); derives = this e.derives }
 ended (name k) = let e = ended (k some_name) in record { tree = e.tree; side = token (Name some_name) ∷ e.side; toks = Name some_name ∷ e.toks; accepts = (some_name, e.side, refl, e.accepts); derives = this e.derives }
 ended (place k) = let e = ended (k 0 some_name) in record { tree = e.tree; side = token (Place 0 some_name) ∷ e.side; toks = Place 0 some_name ∷ e.toks; accepts = (0, some_name, e.side, refl, e.accepts); derives = this e.derives }
+ended (numbered n k) = let e = ended (k some_name) in record { tree = e.tree; side = token (Place n some_name) ∷ e.side; toks = Place n some_name ∷ e.toks; accepts = (some_name, e.side, refl, e.accepts); derives = this e.derives }
 ended (call K k) =
     let v = sample K in
     let e = ended (k v.0) in
@@ -74,6 +75,10 @@ named x k toks (Stops rest) b = record { front = Name x ∷ b.front; more = b.mo
 placed : {s : Sort} (n : ℕ) (x : Written) (k : ℕ → Written → Code s) (toks : List Token) (r : Read s) → Means (k n x) toks r → Means (place k) (Place n x ∷ toks) r
 placed n x k toks (Whole v rest) f = record { front = Place n x ∷ f.front; side = token (Place n x) ∷ f.side; parts = ap (λ z. Place n x ∷ z) f.parts; accepts = (n, x, f.side, refl, f.accepts); derives = this f.derives }
 placed n x k toks (Stops rest) b = record { front = Place n x ∷ b.front; more = b.more; tree = b.tree; side = token (Place n x) ∷ b.side; parts = ap (λ z. Place n x ∷ z) b.parts; accepts = (n, x, b.side, refl, b.accepts); derives = this b.derives }
+
+numbered_as : {s : Sort} (n : ℕ) (x : Written) (k : Written → Code s) (toks : List Token) (r : Read s) → Means (k x) toks r → Means (numbered n k) (Place n x ∷ toks) r
+numbered_as n x k toks (Whole v rest) f = record { front = Place n x ∷ f.front; side = token (Place n x) ∷ f.side; parts = ap (λ z. Place n x ∷ z) f.parts; accepts = (x, f.side, refl, f.accepts); derives = this f.derives }
+numbered_as n x k toks (Stops rest) b = record { front = Place n x ∷ b.front; more = b.more; tree = b.tree; side = token (Place n x) ∷ b.side; parts = ap (λ z. Place n x ∷ z) b.parts; accepts = (x, b.side, refl, b.accepts); derives = this b.derives }
 
 called : {s u : Sort} (K : Kind u) (k : Tree u → Code s) (v : Tree u) (toks mid : List Token) (r : Read s) → Found (code K) toks v mid → Means (k v) mid r → Means (call K k) toks r
 called K k v toks mid (Whole t rest) f g = record {
@@ -161,6 +166,8 @@ meaning (names {x = x} {k = k} {toks = toks} {r = r} d) = named x k toks r (mean
 meaning (names_not {k = k} {toks = toks} other) = begin (name k) toks
 meaning (places {n = n} {x = x} {k = k} {toks = toks} {r = r} d) = placed n x k toks r (meaning d)
 meaning (places_not {k = k} {toks = toks} other) = begin (place k) toks
+meaning (numbers {n = n} {x = x} {k = k} {toks = toks} {r = r} d) = numbered_as n x k toks r (meaning d)
+meaning (numbers_not {n = n} {k = k} {toks = toks} other) = begin (numbered n k) toks
 meaning (calls {K = K} {k = k} {v = v} {toks = toks} {rest = rest} {r = r} d e) = called K k v toks rest r (meaning d) (meaning e)
 meaning (calls_not {K = K} {k = k} {toks = toks} {rest = rest} d) = called_not K k toks rest (meaning d)
 meaning (peeks {C = C} {a = a} {b = b} {toks = toks} {r = r} is d) = first C a b toks r (meaning d)

@@ -1,5 +1,5 @@
 -- The codes read the right sides of the grammar, and nothing else.
-use Rattle.std.proofs.Common.{◌≡◌, inl, inr, Bool, true, false, List, [], ◌∷◌, ◌++◌, refl, sym, ap, subst, ◌∙◌}
+use Rattle.std.proofs.Common.{◌≡◌, inl, inr, Bool, true, false, List, [], ◌∷◌, ◌++◌, refl, sym, ap, subst, ◌∙◌, None}
 use Rattle.std.proofs.lemmas.List.{append-nil}
 use Rattle.topos_text.specs.declared.word.Word.TheVariants as word
 use Rattle.topos_text.specs.declared.symbol.Symbol.TheVariants as symbol
@@ -16,9 +16,17 @@ use Rattle.topos_text.specs.SiteStatements as sites
 use Rattle.topos_text.specs.Statements as statements
 use Rattle.topos_text.specs.Documents.{Derives, nothing, this, by_type, by_term, by_statement}
 use Rattle.topos_text.proofs.DerivationParts.{whole_type, whole_term, whole_site, whole_statement}
-use Rattle.topos_grammar.specs.Kinds.{Sort, OfTerm, OfBinding, OfName, OfArrow, Tree, Kind, AnyType, ProductType, MoreFactors, PrefixType, AnyTerm, Disjunction, MoreDisjuncts, Conjunction, MoreConjuncts, Negation, BinderTerm, Comparison, Application, MoreArguments, Atom, Parentheses, Context, ArrowName, SiteStatement, Cover, part, Side, Covers, Topology, Section, Element, MapAt, Sent, OfCover, OfEntry, OfMapping}
+use Rattle.topos_grammar.specs.Kinds.{Sort, OfTerm, OfBinding, OfName, OfArrow, Tree, Kind, AnyType, ProductType, MoreFactors, PrefixType, AnyTerm, Disjunction, MoreDisjuncts, Conjunction, MoreConjuncts, Negation, BinderTerm, Comparison, Application, MoreArguments, Atom, Parentheses, Context, ArrowName, SiteStatement, Cover, part, Side, Covers, Topology, Section, Element, MapAt, Sent, OfCover, OfEntry, OfMapping, Under, Step, Statement, First, Second}
 use Rattle.topos_grammar.specs.Codes.{the, sign, Code, give, name, call, peek, code, unless, eat_word, eat_sign, bind, bound, entry, mapping}
 use Rattle.topos_grammar.proofs.Accepting.{Accepts, All}
+use Rattle.topos_grammar.proofs.ItemLists.{listed, separated, later, later_accepted, later_commas}
+use Rattle.topos_grammar.proofs.StatementSides.{step_side, step_accepts, statement_side, statement_accepts}
+
+abbrev name_part : Written → List Part
+name_part x = token (Name x) ∷ []
+
+abbrev arrow_part : tree.ArrowTree → List Part
+arrow_part g = site (phrase.ArrowName g) ∷ []
 
 abbrev pub after_disjunction : Bool → TermTree → Code OfTerm
 after_disjunction b s = unless b (peek (sign symbol.Implies) (eat_sign symbol.Implies (call AnyTerm (λ t. give (tree.Implies s t)))) (give s)) (give s)
@@ -47,21 +55,8 @@ more_conjuncts_side false r t side is (inr (e, e1)) = rw (e1, e) terms.conjuncti
 bound_side : (b : Binder) (t : TermTree) (side : List Part) → Accepts (bound b) t side → TermSide (phrase.BinderTerm t) side
 bound_side b t side (r1, e1, (x, r2, e2, (r3, e3, (T, r4, e4, (r5, e5, (u, r6, e6, (e, e7))))))) = rw (e1, e2, e3, e4, e5, e6, e7, e) terms.bound
 
--- the items of a context behind the first
-context_items : (vs : List Binding) (front : List Part) → All (λ v z. Accepts {s = OfBinding} (eat_sign symbol.Comma (bind (λ c. give c))) v z) vs front → (b : Binding) (rest : List Part) → rest ≡ front → binding b ++ rest ≡ commas binding b vs
-unfolding commas
-context_items [] front e b rest is = ap (λ z. binding b ++ z) (is ∙ e)
-context_items (v ∷ vs) front (f1, f2, e, (r1, e1, (x, r2, e2, (r3, e3, (T, r4, e4, (e5, e6))))), all) b rest is =
-    let later : binding v ++ f2 ≡ commas binding v vs = context_items vs f2 all v f2 refl in
-    let item : f1 ≡ token (Sign symbol.Comma) ∷ binding v = rw (e1, e2, e3, e4, e6, e5) refl in
-    ap (λ z. binding b ++ z) (is ∙ e ∙ ap (λ z. z ++ f2) item) ∙ ap (λ z. binding b ++ token (Sign symbol.Comma) ∷ z) later
-
--- items behind an item, each with a comma
-listed : {A : Type 0} (X : A → List Part) (P : A → List Part → Type 0) → ((v : A) (f : List Part) → P v f → f ≡ token (Sign symbol.Comma) ∷ X v) → (vs : List A) (front : List Part) → All P vs front → (a : A) → X a ++ front ≡ commas X a vs
-unfolding commas
-listed X P item [] front e a = ap (λ z. X a ++ z) e ∙ append-nil (X a)
-listed X P item (v ∷ vs) front (f1, f2, e, one, all) a =
-    ap (λ z. X a ++ z) (e ∙ ap (λ z. z ++ f2) (item v f1 one)) ∙ ap (λ z. X a ++ token (Sign symbol.Comma) ∷ z) (listed X P item vs f2 all v)
+binding_item : (v : Binding) (f : List Part) → Accepts {s = OfBinding} (eat_sign symbol.Comma (bind (λ c. give c))) v f → f ≡ token (Sign symbol.Comma) ∷ binding v
+binding_item v f (r1, e1, (x, r2, e2, (r3, e3, (T, r4, e4, (e5, e6))))) = rw (e1, e2, e3, e4, e6, e5) refl
 
 name_item : (v : Written) (f : List Part) → Accepts {s = OfName} (eat_sign symbol.Comma (name (λ y. give y))) v f → f ≡ token (Sign symbol.Comma) ∷ token (Name v) ∷ []
 name_item v f (r1, e1, (x, r2, e2, (e3, e4))) = rw (e1, e2, e4, e3) refl
@@ -77,12 +72,6 @@ mapping_item v f (r1, e1, (x, r2, e2, (r3, e3, (y, r4, e4, (e5, e6))))) = rw (e1
 
 cover_item : (v : tree.CoverTree) (f : List Part) → Accepts {s = OfCover} (call Cover (λ c. eat_sign symbol.Semicolon (give c))) v f → f ≡ site (phrase.Cover v) ∷ token (Sign symbol.Semicolon) ∷ []
 cover_item v f (x, r1, e1, (r2, e2, (e3, e4))) = rw (e1, e2, e4, e3) refl
-
--- items, each with a semicolon
-separated : {A : Type 0} (X : A → Part) (P : A → List Part → Type 0) → ((v : A) (f : List Part) → P v f → f ≡ X v ∷ token (Sign symbol.Semicolon) ∷ []) → (vs : List A) (front : List Part) → All P vs front → front ≡ each X vs
-unfolding each
-separated X P item [] front e = e
-separated X P item (v ∷ vs) front (f1, f2, e, one, all) = e ∙ ap (λ z. z ++ f2) (item v f1 one) ∙ ap (λ z. X v ∷ token (Sign symbol.Semicolon) ∷ z) (separated X P item vs f2 all)
 
 append_nil_to : (front : List Part) {side : List Part} → front ≡ side → front ++ [] ≡ side
 append_nil_to front e = append-nil front ∙ e
@@ -134,7 +123,7 @@ side_of Parentheses t side (r1, e1, inl (r2, e2, (e, e3))) = rw (e1, e2, e3, e) 
 side_of Parentheses t side (r1, e1, inr (s, r2, e2, inl (r3, e3, (u, r4, e4, (r5, e5, (e, e6)))))) = rw (e1, e2, e3, e4, e5, e6, e) terms.pair
 side_of Parentheses t side (r1, e1, inr (s, r2, e2, inr (r3, e3, (e, e4)))) = rw (e1, e2, e3, e4, e) terms.group
 side_of Context t side (inl (x, r1, e1, (r2, e2, (T, r3, e3, (vs, front, rest, e4, all, (e, e5)))))) =
-    let items : binding (record { variable = x; type = T }) ++ front ≡ commas binding (record { variable = x; type = T }) vs = context_items vs front all (record { variable = x; type = T }) front refl in
+    let items : binding (record { variable = x; type = T }) ++ front ≡ commas binding (record { variable = x; type = T }) vs = listed binding _ binding_item vs front all (record { variable = x; type = T }) in
     let whole : side ≡ commas binding (record { variable = x; type = T }) vs = rw (e1, e2, e3, e4, e5) (ap (λ z. binding (record { variable = x; type = T }) ++ z) (append-nil front) ∙ items) in
     rw (whole, e) terms.variables
 side_of Context t side (inr (e, e1)) = rw (e1, e) terms.no_variable
@@ -185,6 +174,11 @@ side_of MapAt t side (r1, e1, (u, r2, e2, (r3, e3, (a, r4, e4, (r5, e5, (b, r6, 
     rw (whole, e) statements.map_at
 side_of Sent t side (inl (r1, e1, (d, r2, e2, (r3, e3, (c, r4, e4, (e, e5)))))) = rw (e1, e2, e3, e4, e5, e) statements.object_to
 side_of Sent t side (inr (r1, e1, (u, r2, e2, (r3, e3, (f, r4, e4, (e, e5)))))) = rw (e1, e2, e3, e4, e5, e) statements.arrow_to
+side_of (Under First) t side (e, e1) = rw (e1, e) statements.not_under
+side_of (Under Second) t side (inl (r1, e1, (j, r2, e2, (e, e3)))) = rw (e1, e2, e3, e) statements.under
+side_of (Under Second) t side (inr (e, e1)) = rw (e1, e) statements.not_under
+side_of Step t side a = step_side t side a
+side_of (Statement v) t side a = statement_side v t side a
 
 -- ---- the other way
 
@@ -215,77 +209,10 @@ conjuncts_more false r s t is = inl (_, refl, (s, _, refl, (t, _, refl, (refl, r
 bound_accepts : (b : Binder) (x : Binding) (t : TermTree) → Accepts (bound b) (tree.Bound b x t) (token (Reserved (binder_word b)) ∷ token (Name x.variable) ∷ token (Sign symbol.Colon) ∷ type (phrase.AnyType x.type) ∷ token (Sign symbol.Dot) ∷ term (phrase.AnyTerm t) ∷ [])
 bound_accepts b x t = (_, refl, (x.variable, _, refl, (_, refl, (x.type, _, refl, (_, refl, (t, _, refl, (refl, refl)))))))
 
--- the items of a context behind the first, with their commas
-abbrev later_items : List Binding → List Part
-later_items [] = []
-later_items (v ∷ vs) = (token (Sign symbol.Comma) ∷ binding v) ++ later_items vs
-
-later_accepted : (vs : List Binding) → All (λ v z. Accepts {s = OfBinding} (eat_sign symbol.Comma (bind (λ c. give c))) v z) vs (later_items vs)
-later_accepted [] = refl
-later_accepted (v ∷ vs) = (token (Sign symbol.Comma) ∷ binding v, later_items vs, refl, (_, refl, (v.variable, _, refl, (_, refl, (v.type, _, refl, (refl, refl))))), later_accepted vs)
-
-later_commas : (b : Binding) (vs : List Binding) → commas binding b vs ≡ binding b ++ later_items vs
-unfolding commas
-later_commas b [] = refl
-later_commas b (v ∷ vs) = ap (λ z. binding b ++ token (Sign symbol.Comma) ∷ z) (later_commas v vs)
-
 context_accepts : (b : Binding) (vs : List Binding) → Accepts (code Context) (b ∷ vs) (commas binding b vs)
 unfolding code
-context_accepts b vs = subst (λ z. Accepts (code Context) (b ∷ vs) z) (ap (λ z. binding b ++ z) (append-nil (later_items vs)) ∙ sym (later_commas b vs))
-    (inl (b.variable, _, refl, (_, refl, (b.type, _, refl, (vs, later_items vs, [], refl, later_accepted vs, (refl, refl))))))
-
--- names behind a name, and arrows behind an arrow, with their commas
-abbrev later_names : List Written → List Part
-later_names [] = []
-later_names (v ∷ vs) = (token (Sign symbol.Comma) ∷ token (Name v) ∷ []) ++ later_names vs
-
-names_accepted : (vs : List Written) → All (λ v z. Accepts {s = OfName} (eat_sign symbol.Comma (name (λ y. give y))) v z) vs (later_names vs)
-names_accepted [] = refl
-names_accepted (v ∷ vs) = (token (Sign symbol.Comma) ∷ token (Name v) ∷ [], later_names vs, refl, (_, refl, (v, _, refl, (refl, refl))), names_accepted vs)
-
-names_commas : (x : Written) (vs : List Written) → names x vs ≡ token (Name x) ∷ later_names vs
-unfolding commas
-names_commas x [] = refl
-names_commas x (v ∷ vs) = ap (λ z. token (Name x) ∷ token (Sign symbol.Comma) ∷ z) (names_commas v vs)
-
-abbrev later_arrows : List tree.ArrowTree → List Part
-later_arrows [] = []
-later_arrows (v ∷ vs) = (token (Sign symbol.Comma) ∷ site (phrase.ArrowName v) ∷ []) ++ later_arrows vs
-
-arrows_accepted : (vs : List tree.ArrowTree) → All (λ v z. Accepts {s = OfArrow} (eat_sign symbol.Comma (call ArrowName (λ g. give g))) v z) vs (later_arrows vs)
-arrows_accepted [] = refl
-arrows_accepted (v ∷ vs) = (token (Sign symbol.Comma) ∷ site (phrase.ArrowName v) ∷ [], later_arrows vs, refl, (_, refl, (v, _, refl, (refl, refl))), arrows_accepted vs)
-
-arrows_commas : (f : tree.ArrowTree) (vs : List tree.ArrowTree) → commas (λ g. site (phrase.ArrowName g) ∷ []) f vs ≡ site (phrase.ArrowName f) ∷ later_arrows vs
-unfolding commas
-arrows_commas f [] = refl
-arrows_commas f (v ∷ vs) = ap (λ z. site (phrase.ArrowName f) ∷ token (Sign symbol.Comma) ∷ z) (arrows_commas v vs)
-
-abbrev later_entries : List tree.EntryTree → List Part
-later_entries [] = []
-later_entries (v ∷ vs) = (token (Sign symbol.Comma) ∷ statements.entry v) ++ later_entries vs
-
-entries_accepted : (vs : List tree.EntryTree) → All (λ v z. Accepts {s = OfEntry} (eat_sign symbol.Comma (entry (λ g. give g))) v z) vs (later_entries vs)
-entries_accepted [] = refl
-entries_accepted (v ∷ vs) = (token (Sign symbol.Comma) ∷ statements.entry v, later_entries vs, refl, (_, refl, (v.from, _, refl, (_, refl, (v.to, _, refl, (refl, refl))))), entries_accepted vs)
-
-entries_commas : (e : tree.EntryTree) (vs : List tree.EntryTree) → commas statements.entry e vs ≡ statements.entry e ++ later_entries vs
-unfolding commas
-entries_commas e [] = refl
-entries_commas e (v ∷ vs) = ap (λ z. statements.entry e ++ token (Sign symbol.Comma) ∷ z) (entries_commas v vs)
-
-abbrev later_mappings : List tree.MappingTree → List Part
-later_mappings [] = []
-later_mappings (v ∷ vs) = (token (Sign symbol.Comma) ∷ statements.mapping v) ++ later_mappings vs
-
-mappings_accepted : (vs : List tree.MappingTree) → All (λ v z. Accepts {s = OfMapping} (eat_sign symbol.Comma (mapping (λ g. give g))) v z) vs (later_mappings vs)
-mappings_accepted [] = refl
-mappings_accepted (v ∷ vs) = (token (Sign symbol.Comma) ∷ statements.mapping v, later_mappings vs, refl, (_, refl, (v.from, _, refl, (_, refl, (v.to, _, refl, (refl, refl))))), mappings_accepted vs)
-
-mappings_commas : (e : tree.MappingTree) (vs : List tree.MappingTree) → commas statements.mapping e vs ≡ statements.mapping e ++ later_mappings vs
-unfolding commas
-mappings_commas e [] = refl
-mappings_commas e (v ∷ vs) = ap (λ z. statements.mapping e ++ token (Sign symbol.Comma) ∷ z) (mappings_commas v vs)
+context_accepts b vs = subst (λ z. Accepts (code Context) (b ∷ vs) z) (ap (λ z. binding b ++ z) (append-nil (later binding vs)) ∙ sym (later_commas binding b vs))
+    (inl (b.variable, _, refl, (_, refl, (b.type, _, refl, (vs, later binding vs, [], refl, later_accepted binding _ (λ v. (_, refl, (v.variable, _, refl, (_, refl, (v.type, _, refl, (refl, refl)))))) vs, (refl, refl))))))
 
 covers_accepted : (cs : List tree.CoverTree) → All (λ v z. Accepts {s = OfCover} (call Cover (λ c. eat_sign symbol.Semicolon (give c))) v z) cs (each (λ z. site (phrase.Cover z)) cs)
 unfolding each
@@ -349,11 +276,11 @@ accepts_side Context t side (terms.variables {b = b} {bs = bs}) = context_accept
 accepts_side ArrowName t side (sites.declared {f = f}) = inr (f, _, refl, (refl, refl))
 accepts_side ArrowName t side (sites.identity {x = x}) = inl (_, refl, (x, _, refl, (refl, refl)))
 accepts_side SiteStatement t side (sites.objects {x = x} {xs = xs}) =
-    subst (λ z. Accepts (code SiteStatement) (tree.Objects (x ∷ xs)) z) (ap (λ z. token (Reserved word.Object) ∷ z) (ap (λ z. token (Name x) ∷ z) (append-nil (later_names xs)) ∙ sym (names_commas x xs)))
-    (inl (_, refl, (x, _, refl, (xs, later_names xs, [], refl, names_accepted xs, (refl, refl)))))
+    subst (λ z. Accepts (code SiteStatement) (tree.Objects (x ∷ xs)) z) (ap (λ z. token (Reserved word.Object) ∷ z) (ap (λ z. token (Name x) ∷ z) (append-nil (later name_part xs)) ∙ sym (later_commas name_part x xs)))
+    (inl (_, refl, (x, _, refl, (xs, later name_part xs, [], refl, later_accepted name_part _ (λ v. (_, refl, (v, _, refl, (refl, refl)))) xs, (refl, refl)))))
 accepts_side SiteStatement t side (sites.arrows {f = f} {dom = d} {cod = c} {fs = fs}) =
-    subst (λ z. Accepts (code SiteStatement) (tree.Arrows (f ∷ fs) d c) z) (ap (λ z. token (Reserved word.Arrow) ∷ z ++ token (Sign symbol.Colon) ∷ token (Name d) ∷ token (Sign symbol.Arrow) ∷ token (Name c) ∷ []) (sym (names_commas f fs)))
-    (inr (inl (_, refl, (f, _, refl, (fs, later_names fs, _, refl, names_accepted fs, (_, refl, (d, _, refl, (_, refl, (c, _, refl, (refl, refl))))))))))
+    subst (λ z. Accepts (code SiteStatement) (tree.Arrows (f ∷ fs) d c) z) (ap (λ z. token (Reserved word.Arrow) ∷ z ++ token (Sign symbol.Colon) ∷ token (Name d) ∷ token (Sign symbol.Arrow) ∷ token (Name c) ∷ []) (sym (later_commas name_part f fs)))
+    (inr (inl (_, refl, (f, _, refl, (fs, later name_part fs, _, refl, later_accepted name_part _ (λ v. (_, refl, (v, _, refl, (refl, refl)))) fs, (_, refl, (d, _, refl, (_, refl, (c, _, refl, (refl, refl))))))))))
 accepts_side SiteStatement t side (sites.composite {g = g} {f = f} {h = h}) = inr (inr (_, refl, (g, _, refl, (_, refl, (f, _, refl, (_, refl, (h, _, refl, (refl, refl))))))))
 accepts_side Covers t side sites.no_cover = covers_read [] [] no_each
 accepts_side Covers t side sites.dense = inl (_, refl, (_, refl, (_, refl, (refl, refl))))
@@ -361,22 +288,27 @@ accepts_side Covers t side (sites.covers {c = c} {cs = cs}) = covers_read (c ∷
 accepts_side Topology t side (sites.dense_topology {j = j}) = (_, refl, (j, _, refl, inl (_, refl, (_, refl, (refl, refl)))))
 accepts_side Topology t side (sites.listed_topology {j = j} {cs = cs}) = (_, refl, (j, _, refl, inr (_, refl, (cs, each (λ z. site (phrase.Cover z)) cs, _, refl, covers_accepted cs, (_, refl, (refl, refl))))))
 accepts_side Section t side (statements.at {u = u} {x = x} {xs = xs}) =
-    subst (λ z. Accepts (code Section) (tree.At u (x ∷ xs)) z) (ap (λ z. token (Reserved word.At) ∷ token (Name u) ∷ token (Sign symbol.Colon) ∷ z) (ap (λ z. token (Name x) ∷ z) (append-nil (later_names xs)) ∙ sym (names_commas x xs)))
-    (inl (_, refl, (u, _, refl, (_, refl, (x, _, refl, (xs, later_names xs, [], refl, names_accepted xs, (refl, refl)))))))
+    subst (λ z. Accepts (code Section) (tree.At u (x ∷ xs)) z) (ap (λ z. token (Reserved word.At) ∷ token (Name u) ∷ token (Sign symbol.Colon) ∷ z) (ap (λ z. token (Name x) ∷ z) (append-nil (later name_part xs)) ∙ sym (later_commas name_part x xs)))
+    (inl (_, refl, (u, _, refl, (_, refl, (x, _, refl, (xs, later name_part xs, [], refl, later_accepted name_part _ (λ v. (_, refl, (v, _, refl, (refl, refl)))) xs, (refl, refl)))))))
 accepts_side Section t side (statements.along {f = f} {e = e} {es = es}) =
-    subst (λ z. Accepts (code Section) (tree.Along f (e ∷ es)) z) (ap (λ z. token (Reserved word.Along) ∷ token (Name f) ∷ token (Sign symbol.Colon) ∷ z) (ap (λ z. statements.entry e ++ z) (append-nil (later_entries es)) ∙ sym (entries_commas e es)))
-    (inr (_, refl, (f, _, refl, (_, refl, (e.from, _, refl, (_, refl, (e.to, _, refl, (es, later_entries es, [], refl, entries_accepted es, (refl, refl)))))))))
+    subst (λ z. Accepts (code Section) (tree.Along f (e ∷ es)) z) (ap (λ z. token (Reserved word.Along) ∷ token (Name f) ∷ token (Sign symbol.Colon) ∷ z) (ap (λ z. statements.entry e ++ z) (append-nil (later statements.entry es)) ∙ sym (later_commas statements.entry e es)))
+    (inr (_, refl, (f, _, refl, (_, refl, (e.from, _, refl, (_, refl, (e.to, _, refl, (es, later statements.entry es, [], refl, later_accepted statements.entry _ (λ v. (_, refl, (v.from, _, refl, (_, refl, (v.to, _, refl, (refl, refl)))))) es, (refl, refl)))))))))
 accepts_side Element t side (statements.by_name {x = x}) = inl (x, _, refl, (refl, refl))
 accepts_side Element t side (statements.by_place {n = n} {x = x}) = inr (n, x, _, refl, (refl, refl))
 accepts_side MapAt t side (statements.map_at {u = u} {e = e} {es = es}) =
-    subst (λ z. Accepts (code MapAt) (record { object = u; entries = e ∷ es }) z) (ap (λ z. token (Reserved word.At) ∷ token (Name u) ∷ token (Sign symbol.Colon) ∷ z) (ap (λ z. statements.mapping e ++ z) (append-nil (later_mappings es)) ∙ sym (mappings_commas e es)))
-    (_, refl, (u, _, refl, (_, refl, (e.from, _, refl, (_, refl, (e.to, _, refl, (es, later_mappings es, [], refl, mappings_accepted es, (refl, refl))))))))
+    subst (λ z. Accepts (code MapAt) (record { object = u; entries = e ∷ es }) z) (ap (λ z. token (Reserved word.At) ∷ token (Name u) ∷ token (Sign symbol.Colon) ∷ z) (ap (λ z. statements.mapping e ++ z) (append-nil (later statements.mapping es)) ∙ sym (later_commas statements.mapping e es)))
+    (_, refl, (u, _, refl, (_, refl, (e.from, _, refl, (_, refl, (e.to, _, refl, (es, later statements.mapping es, [], refl, later_accepted statements.mapping _ (λ v. (_, refl, (v.from, _, refl, (_, refl, (v.to, _, refl, (refl, refl)))))) es, (refl, refl))))))))
 accepts_side Sent t side (statements.object_to {d = d} {c = c}) = inl (_, refl, (d, _, refl, (_, refl, (c, _, refl, (refl, refl)))))
 accepts_side Sent t side (statements.arrow_to {u = u} {f = f}) = inr (_, refl, (u, _, refl, (_, refl, (f, _, refl, (refl, refl)))))
 accepts_side Cover t side (sites.cover_by_none {x = x}) = (_, refl, (x, _, refl, (_, refl, inl (_, refl, (refl, refl)))))
 accepts_side Cover t side (sites.cover_by {x = x} {f = f} {fs = fs}) =
-    subst (λ z. Accepts (code Cover) (record { object = x; arrows = f ∷ fs }) z) (ap (λ z. token (Reserved word.Cover) ∷ token (Name x) ∷ token (Reserved word.By) ∷ z) (ap (λ z. site (phrase.ArrowName f) ∷ z) (append-nil (later_arrows fs)) ∙ sym (arrows_commas f fs)))
-    (_, refl, (x, _, refl, (_, refl, inr (f, _, refl, (fs, later_arrows fs, [], refl, arrows_accepted fs, (refl, refl))))))
+    subst (λ z. Accepts (code Cover) (record { object = x; arrows = f ∷ fs }) z) (ap (λ z. token (Reserved word.Cover) ∷ token (Name x) ∷ token (Reserved word.By) ∷ z) (ap (λ z. site (phrase.ArrowName f) ∷ z) (append-nil (later arrow_part fs)) ∙ sym (later_commas arrow_part f fs)))
+    (_, refl, (x, _, refl, (_, refl, inr (f, _, refl, (fs, later arrow_part fs, [], refl, later_accepted arrow_part _ (λ v. (_, refl, (v, _, refl, (refl, refl)))) fs, (refl, refl))))))
+accepts_side (Under First) t side statements.not_under = (refl, refl)
+accepts_side (Under Second) t side statements.not_under = inr (refl, refl)
+accepts_side (Under Second) t side (statements.under {j = j}) = inl (_, refl, (j, _, refl, (refl, refl)))
+accepts_side Step t side statements.step = step_accepts t
+accepts_side (Statement v) t side r = statement_accepts v t side r
 
 -- ---- a phrase of each kind
 
@@ -422,6 +354,9 @@ one_map_at : Derives (statement (phrase.MapAt (record { object = some_name; entr
 unfolding commas
 one_map_at = whole_statement statements.map_at (this (this (this (by_statement statements.by_name (this nothing) (this (whole_statement statements.by_name (this nothing)))))))
 
+one_step : Derives (statement (phrase.Step (record { rule = some_name; from = []; context = []; hypotheses = []; conclusion = tree.Truth; with_term = None })) ∷ []) (Name some_name ∷ Sign symbol.Colon ∷ Sign symbol.Bar ∷ Sign symbol.Arrow ∷ Reserved word.True ∷ [])
+one_step = whole_statement statements.step (this (this (by_term terms.no_variable nothing (this (this true_term)))))
+
 pub sample : {s : Sort} (K : Kind s) → (v : Tree s) × (xs : List Token) × Derives (part K v ∷ []) xs
 sample AnyType = (tree.One, _, whole_type types.product_alone one_type)
 sample ProductType = (tree.One, _, one_type)
@@ -449,3 +384,6 @@ sample Element = (tree.ByName some_name, Name some_name ∷ [], whole_statement 
 sample MapAt = (record { object = some_name; entries = record { from = tree.ByName some_name; to = tree.ByName some_name } ∷ [] }, Reserved word.At ∷ Name some_name ∷ Sign symbol.Colon ∷ Name some_name ∷ Sign symbol.Arrow ∷ Name some_name ∷ [], one_map_at)
 sample Sent = (tree.ObjectTo some_name some_name, Reserved word.At ∷ Name some_name ∷ Sign symbol.Colon ∷ Name some_name ∷ [], whole_statement statements.object_to (this (this (this (this nothing)))))
 sample Cover = (record { object = some_name; arrows = [] }, Reserved word.Cover ∷ Name some_name ∷ Reserved word.By ∷ Reserved word.None ∷ [], whole_site sites.cover_by_none (this (this (this (this nothing)))))
+sample (Under v) = (None, [], whole_statement statements.not_under nothing)
+sample Step = (_, _, one_step)
+sample (Statement v) = (tree.Hom some_name some_name, Reserved word.Hom ∷ Name some_name ∷ Name some_name ∷ [], whole_statement statements.hom (this (this (this nothing))))

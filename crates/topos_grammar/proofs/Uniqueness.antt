@@ -3,8 +3,8 @@ use Rattle.std.proofs.Common.{◌≡◌, ◌⊎◌, inl, inr, Bool, true, false,
 use Rattle.std.proofs.lemmas.List.{append_cancel_right}
 use Rattle.topos_text.specs.Tokens.{Token, Written, Name, Place}
 use Rattle.topos_grammar.specs.Kinds.{Sort, Tree, Kind}
-use Rattle.topos_grammar.specs.Codes.{Class, This, AnyName, Either, Is, Code, give, eat, name, call, peek, loop, code, place, AnyPlace}
-use Rattle.topos_grammar.specs.Reading.{Read, Whole, Stops, Reading, gives, eats, eats_not, names, names_not, calls, calls_not, peeks, peeks_not, loops, loops_not, loops_end, places, places_not}
+use Rattle.topos_grammar.specs.Codes.{Class, This, AnyName, Either, Is, Code, give, eat, name, call, peek, loop, code, place, AnyPlace, Numbered, Any, numbered}
+use Rattle.topos_grammar.specs.Reading.{Read, Whole, Stops, Reading, gives, eats, eats_not, names, names_not, calls, calls_not, peeks, peeks_not, loops, loops_not, loops_end, places, places_not, numbers, numbers_not}
 use Rattle.topos_grammar.proofs.Meaning.{meaning}
 
 -- how the code was read
@@ -13,6 +13,7 @@ Inverts (give v) toks r = r ≡ Whole v toks
 Inverts {s} (eat u k) toks r = ((ts : List Token) × (toks ≡ u ∷ ts) × Reading s k ts r) ⊎ ((Is (This u) toks → ⊥) × (r ≡ Stops toks))
 Inverts {s} (name k) toks r = ((x : Written) × (ts : List Token) × (toks ≡ Name x ∷ ts) × Reading s (k x) ts r) ⊎ ((Is AnyName toks → ⊥) × (r ≡ Stops toks))
 Inverts {s} (place k) toks r = ((n : ℕ) × (x : Written) × (ts : List Token) × (toks ≡ Place n x ∷ ts) × Reading s (k n x) ts r) ⊎ ((Is AnyPlace toks → ⊥) × (r ≡ Stops toks))
+Inverts {s} (numbered n k) toks r = ((x : Written) × (ts : List Token) × (toks ≡ Place n x ∷ ts) × Reading s (k x) ts r) ⊎ ((Is (Numbered n) toks → ⊥) × (r ≡ Stops toks))
 Inverts {s} (call {u = u} K k) toks r = ((v : Tree u) × (rest : List Token) × Reading u (code K) toks (Whole v rest) × Reading s (k v) rest r) ⊎ ((rest : List Token) × Reading u (code K) toks (Stops rest) × (r ≡ Stops rest))
 Inverts {s} (peek C a b) toks r = (Is C toks × Reading s a toks r) ⊎ ((Is C toks → ⊥) × Reading s b toks r)
 Inverts {s} (loop {u = u} C item k) toks r =
@@ -27,6 +28,8 @@ inverts (names {x = x} {toks = toks} d) = inl (x, toks, refl, d)
 inverts (names_not other) = inr (other, refl)
 inverts (places {n = n} {x = x} {toks = toks} d) = inl (n, x, toks, refl, d)
 inverts (places_not other) = inr (other, refl)
+inverts (numbers {x = x} {toks = toks} d) = inl (x, toks, refl, d)
+inverts (numbers_not other) = inr (other, refl)
 inverts (calls {v = v} {rest = rest} d e) = inl (v, rest, d, e)
 inverts (calls_not {rest = rest} d) = inr (rest, d, refl)
 inverts (peeks is d) = inl (is, d)
@@ -103,6 +106,14 @@ unique (places_not other) q e = elim (inverts e) [
   | inl (m, y, ts, is, f) ↦ absurd (other (m, y, ts, is))
   | inr (no_more, is) ↦ sym is
 ]
+unique {s} (numbers {n = n} {x = x} {k = k} {toks = toks} d) q e = elim (inverts e) [
+  | inl (y, ts, is, f) ↦ (let w = place_same n n x y toks ts is in unique d q (subst (λ z. Reading s (k z) toks q) (sym w.1) (subst (λ z. Reading s (k y) z q) (sym (tail_same (Place n x) (Place n y) toks ts is)) f)))
+  | inr (other, is) ↦ absurd (other (x, toks, refl))
+]
+unique (numbers_not other) q e = elim (inverts e) [
+  | inl (y, ts, is, f) ↦ absurd (other (y, ts, is))
+  | inr (no_more, is) ↦ sym is
+]
 unique {s} (calls {K = K} {k = k} {v = v} {toks = toks} {rest = rest} d f) q e = elim (inverts e) [
   | inl (t, mid, g, h) ↦ (let w = unique d (Whole t mid) g in unique f q (subst (λ z. Reading s (k z) rest q) (sym (same_tree v t rest mid w)) (subst (λ z. Reading s (k t) z q) (sym (same_rest v t rest mid w)) h)))
   | inr (mid, g, is) ↦ absurd (whole_not_stop v rest mid (unique d (Stops mid) g))
@@ -149,6 +160,10 @@ same_class AnyName u r q [] (x, ts, e) = (x, q, ap (λ z. z ∷ q) (head_same u 
 same_class AnyName u r q (w ∷ b) (x, ts, e) = (x, b ++ u ∷ q, ap (λ z. z ∷ b ++ u ∷ q) (head_same w (Name x) (b ++ u ∷ r) ts e))
 same_class AnyPlace u r q [] (n, x, ts, e) = (n, x, q, ap (λ z. z ∷ q) (head_same u (Place n x) r ts e))
 same_class AnyPlace u r q (w ∷ b) (n, x, ts, e) = (n, x, b ++ u ∷ q, ap (λ z. z ∷ b ++ u ∷ q) (head_same w (Place n x) (b ++ u ∷ r) ts e))
+same_class (Numbered n) u r q [] (x, ts, e) = (x, q, ap (λ z. z ∷ q) (head_same u (Place n x) r ts e))
+same_class (Numbered n) u r q (w ∷ b) (x, ts, e) = (x, b ++ u ∷ q, ap (λ z. z ∷ b ++ u ∷ q) (head_same w (Place n x) (b ++ u ∷ r) ts e))
+same_class Any u r q [] (t, ts, e) = (u, q, refl)
+same_class Any u r q (w ∷ b) (t, ts, e) = (w, b ++ u ∷ q, refl)
 same_class (Either C D) u r q b (inl is) = inl (same_class C u r q b is)
 same_class (Either C D) u r q b (inr is) = inr (same_class D u r q b is)
 
@@ -170,6 +185,10 @@ again_name u r q x k b (Stops rest) h = λ e. names (h e)
 again_place : {s : Sort} (u : Token) (r q : List Token) (n : ℕ) (x : Written) (k : ℕ → Written → Code s) (b : List Token) (z : Read s) → Again u r q (k n x) b z → Again u r q (place k) (Place n x ∷ b) z
 again_place u r q n x k b (Whole v rest) h = λ d e. places (h d e)
 again_place u r q n x k b (Stops rest) h = λ e. places (h e)
+
+again_number : {s : Sort} (u : Token) (r q : List Token) (n : ℕ) (x : Written) (k : Written → Code s) (b : List Token) (z : Read s) → Again u r q (k x) b z → Again u r q (numbered n k) (Place n x ∷ b) z
+again_number u r q n x k b (Whole v rest) h = λ d e. numbers (h d e)
+again_number u r q n x k b (Stops rest) h = λ e. numbers (h e)
 
 -- a token that was passed
 passed : {s : Sort} (u : Token) (r q : List Token) (c : Code s) (b : List Token) (k : Code s) (toks : List Token) (x : Read s) → toks ≡ r → Reading s k toks x → Again u r q c b x
@@ -230,6 +249,11 @@ again u r q (t ∷ b) (places {n = i} {x = y} {k = k} {toks = toks} {r = x} d) e
     again_head u r q (place k) b t (Place i y) x (sym (head_same (Place i y) t toks (b ++ u ∷ r) e)) (again_place u r q i y k b x (again u r q b d (tail_same (Place i y) t toks (b ++ u ∷ r) e)))
 again {s} u r q b (places_not {k = k} {toks = toks} other) e = λ is.
     subst (λ z. Reading s (place k) (z ++ u ∷ q) (Stops (u ∷ q))) (sym (no_front u r b (sym e ∙ is))) (places_not (λ h. other (subst (λ z. Is AnyPlace z) (sym is) (same_class AnyPlace u q r [] h))))
+again u r q [] (numbers {n = i} {x = y} {k = k} {toks = toks} {r = x} d) e = passed u r q (numbered i k) [] (k y) toks x (tail_same (Place i y) u toks r e) d
+again u r q (t ∷ b) (numbers {n = i} {x = y} {k = k} {toks = toks} {r = x} d) e =
+    again_head u r q (numbered i k) b t (Place i y) x (sym (head_same (Place i y) t toks (b ++ u ∷ r) e)) (again_number u r q i y k b x (again u r q b d (tail_same (Place i y) t toks (b ++ u ∷ r) e)))
+again {s} u r q b (numbers_not {n = i} {k = k} {toks = toks} other) e = λ is.
+    subst (λ z. Reading s (numbered i k) (z ++ u ∷ q) (Stops (u ∷ q))) (sym (no_front u r b (sym e ∙ is))) (numbers_not (λ h. other (subst (λ z. Is (Numbered i) z) (sym is) (same_class (Numbered i) u q r [] h))))
 again u r q b (calls {K = K} {k = k} {v = v} {toks = toks} {rest = mid} {r = x} d f) e = again_call u r q K k v b toks mid x f (again u r q b d e) (λ p at. again u r q p f at)
 again u r q b (calls_not d) e = λ is. calls_not (again u r q b d e is)
 again u r q b (peeks {C = C} {a = a} {b = c} {r = x} is d) e = again_peek u r q C a c b x (same_class C u r q b (subst (λ z. Is C z) e is)) (again u r q b d e)

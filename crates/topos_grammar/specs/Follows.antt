@@ -4,7 +4,7 @@ use Rattle.topos_text.specs.declared.word.Word.TheVariants as word
 use Rattle.topos_text.specs.declared.symbol.Symbol.TheVariants as symbol
 use Rattle.topos_text.specs.Tokens.{Token, Reserved, Sign}
 use Rattle.topos_text.specs.Terms.{ends_with_body}
-use Rattle.topos_grammar.specs.Kinds.{Sort, Tree, Kind, AnyType, ProductType, MoreFactors, PrefixType, AnyTerm, Disjunction, MoreDisjuncts, Conjunction, MoreConjuncts, Negation, BinderTerm, Comparison, Application, MoreArguments, Atom, Parentheses, Context, ArrowName, SiteStatement, Cover, Covers, Topology, Section, Element, MapAt, Sent}
+use Rattle.topos_grammar.specs.Kinds.{Sort, Tree, Kind, AnyType, ProductType, MoreFactors, PrefixType, AnyTerm, Disjunction, MoreDisjuncts, Conjunction, MoreConjuncts, Negation, BinderTerm, Comparison, Application, MoreArguments, Atom, Parentheses, Context, ArrowName, SiteStatement, Cover, Covers, Topology, Section, Element, MapAt, Sent, Under, Step, Statement}
 use Rattle.topos_grammar.specs.Codes.{Is, sign, the}
 
 -- how loosely the token in front binds
@@ -55,3 +55,6 @@ Follow Section t ts = Is (sign symbol.Semicolon) ts
 Follow Element t ts = Unit {0}
 Follow MapAt t ts = Is (sign symbol.Semicolon) ts
 Follow Sent t ts = Is (sign symbol.Semicolon) ts
+Follow (Under v) t ts = Is (the word.Under) ts → ⊥
+Follow Step t ts = Is (sign symbol.Semicolon) ts
+Follow (Statement v) t ts = Is (sign symbol.Semicolon) ts

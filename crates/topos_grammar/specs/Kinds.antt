@@ -1,7 +1,7 @@
 -- The kinds of phrases, without their trees.
-use Rattle.std.specs.Prelude.{List}
+use Rattle.std.specs.Prelude.{ℕ, List, Option}
 use Rattle.topos_text.specs.Tokens.{Written}
-use Rattle.topos_text.specs.Trees.{TypeTree, TermTree, Binding, ArrowTree, SiteTree, CoverTree, CoversTree, TopologyTree, EntryTree, SectionTree, ElementTree, MappingTree, MapAtTree, SentTree}
+use Rattle.topos_text.specs.Trees.{TypeTree, TermTree, Binding, ArrowTree, SiteTree, CoverTree, CoversTree, TopologyTree, EntryTree, SectionTree, ElementTree, MappingTree, MapAtTree, SentTree, PlaceTree, StepTree, StatementTree, DocumentTree}
 use Rattle.topos_text.specs.Phrases.{Part, type, term, site, statement}
 use Rattle.topos_text.specs.Phrases as phrase
 use Rattle.topos_text.specs.Types.{TypeSide}
@@ -27,6 +27,11 @@ pub data Sort : Type 0 where
   OfMapping : Sort
   OfMapAt : Sort
   OfSent : Sort
+  OfUnder : Sort
+  OfPlace : Sort
+  OfStep : Sort
+  OfStatement : Sort
+  OfDocument : Sort
 
 abbrev pub Tree : Sort → Type 0
 Tree OfType = TypeTree
@@ -45,6 +50,20 @@ Tree OfElement = ElementTree
 Tree OfMapping = MappingTree
 Tree OfMapAt = MapAtTree
 Tree OfSent = SentTree
+Tree OfUnder = Option Written
+Tree OfPlace = PlaceTree
+Tree OfStep = StepTree
+Tree OfStatement = StatementTree
+Tree OfDocument = DocumentTree
+
+-- the version of a document
+pub data Version : Type 0 where
+  First : Version
+  Second : Version
+
+abbrev pub version_number : Version → ℕ
+version_number First = 1
+version_number Second = 2
 
 -- A kind of phrases. One that goes on from a tree has that tree.
 pub data Kind : Sort → Type 0 where
@@ -74,6 +93,9 @@ pub data Kind : Sort → Type 0 where
   Element : Kind OfElement
   MapAt : Kind OfMapAt
   Sent : Kind OfSent
+  Under : Version → Kind OfUnder
+  Step : Kind OfStep
+  Statement : Version → Kind OfStatement
 
 -- the phrase of the kind with the tree
 abbrev pub part : {s : Sort} → Kind s → Tree s → Part
@@ -103,6 +125,9 @@ part Section t = statement (phrase.Section t)
 part Element t = statement (phrase.Element t)
 part MapAt t = statement (phrase.MapAt t)
 part Sent t = statement (phrase.Sent t)
+part (Under v) t = statement (phrase.Under (version_number v) t)
+part Step t = statement (phrase.Step t)
+part (Statement v) t = statement (phrase.Statement (version_number v) t)
 
 -- a right side of that phrase
 abbrev pub Side : {s : Sort} → Kind s → Tree s → List Part → Type 0
@@ -132,3 +157,6 @@ Side Section t side = StatementSide (phrase.Section t) side
 Side Element t side = StatementSide (phrase.Element t) side
 Side MapAt t side = StatementSide (phrase.MapAt t) side
 Side Sent t side = StatementSide (phrase.Sent t) side
+Side (Under v) t side = StatementSide (phrase.Under (version_number v) t) side
+Side Step t side = StatementSide (phrase.Step t) side
+Side (Statement v) t side = StatementSide (phrase.Statement (version_number v) t) side

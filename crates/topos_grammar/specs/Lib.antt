@@ -3,6 +3,5 @@ pub mod Codes
 pub mod Reading
 pub mod Follows
 pub mod Places
-pub mod Views
 pub mod Gives
 pub mod Laws

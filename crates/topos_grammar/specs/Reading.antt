@@ -5,7 +5,7 @@ use Rattle.topos_text.specs.declared.symbol.Symbol.TheVariants as symbol
 use Rattle.topos_text.specs.Tokens.{Token, Written, Name, Place}
 use Rattle.topos_text.specs.Terms.{ends_with_body}
 use Rattle.topos_grammar.specs.Kinds.{Sort, Tree, Kind, MoreDisjuncts, MoreConjuncts, MoreArguments}
-use Rattle.topos_grammar.specs.Codes.{Class, This, AnyName, AnyPlace, Is, the, sign, Code, give, eat, name, place, call, peek, loop, code}
+use Rattle.topos_grammar.specs.Codes.{Class, This, AnyName, AnyPlace, Numbered, Is, the, sign, Code, give, eat, name, place, numbered, call, peek, loop, code}
 
 -- a tree and the tokens behind it, or the tokens from the one at which reading stops
 pub data Read : Sort → Type 0 where
@@ -21,6 +21,8 @@ pub data Reading : (s : Sort) → Code s → List Token → Read s → Type 0 wh
   names_not : {s : Sort} {k : Written → Code s} {toks : List Token} → (Is AnyName toks → ⊥) → Reading s (name k) toks (Stops toks)
   places : {s : Sort} {n : ℕ} {x : Written} {k : ℕ → Written → Code s} {toks : List Token} {r : Read s} → Reading s (k n x) toks r → Reading s (place k) (Place n x ∷ toks) r
   places_not : {s : Sort} {k : ℕ → Written → Code s} {toks : List Token} → (Is AnyPlace toks → ⊥) → Reading s (place k) toks (Stops toks)
+  numbers : {s : Sort} {n : ℕ} {x : Written} {k : Written → Code s} {toks : List Token} {r : Read s} → Reading s (k x) toks r → Reading s (numbered n k) (Place n x ∷ toks) r
+  numbers_not : {s : Sort} {n : ℕ} {k : Written → Code s} {toks : List Token} → (Is (Numbered n) toks → ⊥) → Reading s (numbered n k) toks (Stops toks)
   calls : {s u : Sort} {K : Kind u} {k : Tree u → Code s} {v : Tree u} {toks rest : List Token} {r : Read s} → Reading u (code K) toks (Whole v rest) → Reading s (k v) rest r → Reading s (call K k) toks r
   calls_not : {s u : Sort} {K : Kind u} {k : Tree u → Code s} {toks rest : List Token} → Reading u (code K) toks (Stops rest) → Reading s (call K k) toks (Stops rest)
   peeks : {s : Sort} {C : Class} {a b : Code s} {toks : List Token} {r : Read s} → Is C toks → Reading s a toks r → Reading s (peek C a b) toks r

@@ -2,13 +2,13 @@
 ghost use Rattle.std.specs.Prelude.{map, MatchResult};
 ghost use Rattle.topos_text.specs.Tokens.{token_of};
 ghost use Rattle.topos_grammar.specs.Gives.{Binds, Unbound};
-ghost use Rattle.topos_grammar.specs.Views.{binding_of};
+ghost use Rattle.topos_text.specs.Views.{binding_of};
 
+use crate::Stop;
 use crate::heads::{expect, expect_name};
 use crate::types::any_type;
-use crate::{Binding, Stop};
 use std::alloc::Global;
-use topos_text::{Symbol, Token};
+use topos_text::{Binding, Symbol, Token};
 
 /// A variable and its type, and the tokens behind them.
 pub fn bind<'t, 'a>(

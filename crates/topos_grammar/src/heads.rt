@@ -3,11 +3,11 @@ ghost use Rattle.std.specs.Prelude.{◌≡◌, ◌≢◌, ◌∷◌, ℕ, List, 
 ghost use Rattle.topos_text.specs.Tokens.{token_of, written, Name, Reserved, Sign};
 ghost use Rattle.topos_grammar.specs.Codes.{Is, the, sign, AnyName, binders};
 ghost use Rattle.topos_grammar.specs.Gives.{Misses};
-ghost use Rattle.topos_grammar.specs.Views.{binder_of};
+ghost use Rattle.topos_text.specs.Views.{binder_of};
 ghost use Rattle.topos_text.specs.Terms.{binder_word};
 
-use crate::{Binder, Stop};
-use topos_text::{Symbol, Token, Word, Written};
+use crate::Stop;
+use topos_text::{Binder, Symbol, Token, Word, Written};
 
 fn same_word(left: Word, right: Word) -> bool
     ensures { MatchBool result (left ≡ right) (left ≢ right) }

@@ -1,8 +1,8 @@
-//! Types and terms from tokens, by the grammar: the tree that the tokens are, or the first token with which no tree goes on.
+//! Types and terms from tokens, by the grammar: the tree that the tokens are, or the first token with which no tree goes on. The laws of reading are those of all phrases and of documents.
 #![tactic(auto)]
 
-mod binding;
-mod heads;
+pub mod binding;
+pub mod heads;
 mod laws;
 mod stop;
 mod terms;
@@ -12,5 +12,4 @@ mod types;
 pub use laws::reading_laws;
 pub use stop::Stop;
 pub use terms::any_term;
-pub use tree::{Binder, Binding, TermTree, TypeTree};
 pub use types::any_type;

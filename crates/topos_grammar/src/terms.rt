@@ -6,17 +6,17 @@ ghost use Rattle.topos_text.specs.Terms.{binder_word};
 ghost use Rattle.topos_grammar.specs.Kinds.{AnyTerm, Disjunction, MoreDisjuncts, Conjunction, MoreConjuncts, Negation, BinderTerm, Comparison, Application, MoreArguments, Atom, Parentheses};
 ghost use Rattle.topos_grammar.specs.Reading.{Ready};
 ghost use Rattle.topos_grammar.specs.Gives.{Gives, Opens, Unopened, IsLeaf, NoLeaf};
-ghost use Rattle.topos_grammar.specs.Views.{term_of, binder_of};
+ghost use Rattle.topos_text.specs.Views.{term_of, binder_of};
 
 use crate::Stop;
 use crate::binding::bind;
 use crate::heads::{after_symbol, after_word, binder, expect, name};
 use crate::tree::{
-    Binder, TermTree, and, applied, bound, equal, first_of, grouped, implies, member, not, or,
-    paired, second_of, subset,
+    and, applied, bound, equal, first_of, grouped, implies, member, not, or, paired, second_of,
+    subset,
 };
 use std::alloc::Global;
-use topos_text::{Symbol, Token, Word};
+use topos_text::{Binder, Symbol, TermTree, Token, Word};
 
 /// A term, and the tokens behind it.
 #[cycle(terms)]

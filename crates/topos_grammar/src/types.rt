@@ -3,13 +3,13 @@ ghost use Rattle.std.specs.Prelude.{◌≡◌, map};
 ghost use Rattle.topos_text.specs.Tokens.{token_of};
 ghost use Rattle.topos_grammar.specs.Kinds.{AnyType, ProductType, MoreFactors, PrefixType};
 ghost use Rattle.topos_grammar.specs.Gives.{Gives};
-ghost use Rattle.topos_grammar.specs.Views.{type_of};
+ghost use Rattle.topos_text.specs.Views.{type_of};
 
 use crate::Stop;
 use crate::heads::{after_symbol, after_word, expect, name};
-use crate::tree::{TypeTree, function, power, product};
+use crate::tree::{function, power, product};
 use std::alloc::Global;
-use topos_text::{Symbol, Token, Word};
+use topos_text::{Symbol, Token, TypeTree, Word};
 
 /// A type, and the tokens behind it.
 #[cycle(types)]

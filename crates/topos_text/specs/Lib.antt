@@ -2,6 +2,7 @@ pub mod Tokens
 pub mod Spelling
 pub mod Lexing
 pub mod Trees
+pub mod Views
 pub mod Phrases
 pub mod Types
 pub mod Terms

@@ -6,7 +6,7 @@ use Rattle.topos_text.specs.Terms.{binder_word}
 use Rattle.topos_text.specs.Trees as tree
 use Rattle.topos_grammar.specs.Kinds.{AnyTerm, Disjunction, MoreDisjuncts, Conjunction, MoreConjuncts, Negation, BinderTerm, Comparison, Application, MoreArguments, Atom, Parentheses}
 use Rattle.topos_grammar.specs.Codes.{sign}
-use Rattle.topos_grammar.specs.Views.{term_of, binding_of, binder_of}
+use Rattle.topos_text.specs.Views.{term_of, binding_of, binder_of}
 use Rattle.topos_grammar.proofs.Steps.{fails_from, gives_from, fails_at}
 use Rattle.topos_grammar.proofs.TermSteps.{term_stops, term_alone, implication_stops, implication_read, disjunction_stops, disjunction_read, disjuncts_ready, more_disjuncts_ready, disjuncts_end, disjuncts_stop, disjuncts_more, conjunction_stops, conjunction_read, conjuncts_ready, more_conjuncts_ready, conjuncts_end, conjuncts_stop, conjuncts_more, not_stops, not_read, quantified_read, compared_read, unbound_binder, undotted_binder, bound_stops, bound_read, comparison_stops, comparison_alone, equal_stops, equal_read, member_stops, member_read, application_stops, application_read, arguments_end, arguments_stop, arguments_more, unbound_subset, unbarred_subset, subset_stops, unclosed_subset, subset_read, fst_fails, fst_read, snd_fails, snd_read, parenthesized_read, unopened_fails, inner_fails, unclosed_fails, unopened, unit_read, parentheses_stop, unclosed, grouped_read, second_stops, unclosed_pair, pair_read}
 use Rattle.topos_grammar.proofs.terms.+terms.Goals as goal

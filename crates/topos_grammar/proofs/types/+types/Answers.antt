@@ -5,7 +5,7 @@ use Rattle.topos_text.specs.Tokens.{token_of, written}
 use Rattle.topos_text.specs.Trees as tree
 use Rattle.topos_grammar.specs.Kinds.{AnyType, ProductType, MoreFactors, PrefixType}
 use Rattle.topos_grammar.specs.Codes.{sign}
-use Rattle.topos_grammar.specs.Views.{type_of}
+use Rattle.topos_text.specs.Views.{type_of}
 use Rattle.topos_grammar.proofs.Steps.{fails_from, gives_from, fails_at, any_type_stops, any_type_alone, function_stops, function_read, product_type_stops, product_type_read, factors_end, factors_stop, factors_more, power_stops, power_read, functor_read, one_read, omega_read, unopened_type, grouped_type_stops, unclosed_type, grouped_type_read}
 use Rattle.topos_grammar.proofs.types.+types.Goals as goal
 

@@ -1,0 +1,5 @@
+pub mod Lists
+pub mod Exits
+pub mod Items
+pub mod Branches
+pub mod DocumentEnds

@@ -1,0 +1,3 @@
+pub mod Passages
+pub mod Views
+pub mod Places
