@@ -1,1 +1,3 @@
 pub mod PassSteps
+pub mod PairNumbers
+pub mod PairTables
