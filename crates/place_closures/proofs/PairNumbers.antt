@@ -28,10 +28,10 @@ module _ {A : Type 0} (count : ℕ → ℕ) (entry : ℕ → ℕ → A) where
   length-joined (g ∷ fs) =
       length-append (map (entry g) (range_with_len 0 (count g))) (joined fs) ∙ ap (λ n. n + length (joined fs)) (length-block g) ∙ ap (λ n. count g + n) (length-joined fs)
 
-  starts-same : (g : ℕ) (fs : List ℕ) (f : ℕ) → g ≡ f → starts count (g ∷ fs) f ≡ 0
+  pub starts-same : (g : ℕ) (fs : List ℕ) (f : ℕ) → g ≡ f → starts count (g ∷ fs) f ≡ 0
   starts-same g fs f e = ap (λ b. cond b 0 (count g + starts count fs f)) (eq-eqb g f e)
 
-  starts-other : (g : ℕ) (fs : List ℕ) (f : ℕ) → (g ≡ f → ⊥) → starts count (g ∷ fs) f ≡ count g + starts count fs f
+  pub starts-other : (g : ℕ) (fs : List ℕ) (f : ℕ) → (g ≡ f → ⊥) → starts count (g ∷ fs) f ≡ count g + starts count fs f
   starts-other g fs f n = ap (λ b. cond b 0 (count g + starts count fs f)) (ne_eqb g f n)
 
   pub start_within : (fs : List ℕ) (f w : ℕ) → In fs f → w < count f → starts count fs f + w < length (joined fs)

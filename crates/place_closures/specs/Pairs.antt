@@ -45,3 +45,13 @@ pub record IsClosedSet (s : Site) (size : ℕ → ℕ) (move : ℕ → ℕ → �
       has_pair s.category size move c a f w ≡ true → has_pair s.category size move c a (compose s.category f g) (move g w) ≡ true
   pub covered : (f w : ℕ) → IsInto s.category c f → w < size (dom s.category f) →
       ((g : ℕ) → In (least s (dom s.category f)) g → has_pair s.category size move c a (compose s.category f g) (move g w) ≡ true) → has_pair s.category size move c a f w ≡ true
+
+-- for each arrow into c the number of its first pair
+pub record AreStarts (k : Category) (size : ℕ → ℕ) (move : ℕ → ℕ → ℕ) (c : ℕ) (row : List ℕ) : Type 0 where
+  pub arrows : length row ≡ length k.ends
+  pub starts_at : (f : ℕ) → IsInto k c f → get_or row f 0 ≡ start k size move c f
+
+-- what may be asked of elements over a category
+pub record CanAsk (k : Category) (size : ℕ → ℕ) (can_count : ℕ → Type 0) (can_restrict : ℕ → ℕ → Type 0) : Type 0 where
+  pub count : (c : ℕ) → c < k.objects → can_count c
+  pub restrict : (c f x : ℕ) → IsInto k c f → x < size c → can_restrict f x
