@@ -103,6 +103,13 @@ impl FunctorStore {
         self.cells
     }
 
+    /// How many cells more the budget allows.
+    pub fn room(&self) -> u64
+        ensures room { result + cells self.now ≡ self.now.budget }
+    {
+        self.budget - self.cells
+    }
+
     /// Counts cells that no functor holds, or answers that they exceed the budget.
     pub fn charge(&mut self, more: u64) -> Result<(), Over>
         requires idle { self.old.building ≡ None }

@@ -1,13 +1,8 @@
-// A library with one function.
+//! Functors that are sealed in a store from the rows of their elements.
 #![tactic(auto)]
 
-ghost use Rattle.std.specs.Prelude.{◌≡◌};
-ghost use Rattle.sealed_functors.specs.Echo.{echo_of};
+mod rows;
+mod seal;
 
-// The `ensures` clause is the contract: what `echo` returns is `echo_of` of its argument, a definition
-// in `specs/Echo.antt`, which a caller's clause can cite too.
-pub fn echo(x: usize) -> usize
-    ensures { result ≡ echo_of x }
-{
-    x
-}
+pub use rows::ElementRows;
+pub use seal::seal_rows;
