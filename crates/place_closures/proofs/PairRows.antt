@@ -1,14 +1,11 @@
 -- The rows of pairs as they are made, one after another.
-use Rattle.std.proofs.Common.{◌≡◌, ℕ, zero, suc, ◌+◌, ◌<◌, ◌≤◌, inl, inr, List, [], ◌∷◌, ◌++◌, length, get_or, set, take, map, refl, sym, ap, subst, ◌∙◌, add-one, arith}
+use Rattle.std.proofs.Common.{◌≡◌, ℕ, zero, suc, ◌+◌, ◌<◌, ◌≤◌, inl, inr, List, [], ◌∷◌, ◌++◌, length, get_or, set, take, map, refl, sym, ap, subst, ◌∙◌, arith}
 use Rattle.std.specs.List.{flat_map}
 use Rattle.std.proofs.lemmas.Grind.{flat_map-append}
-use Rattle.std.proofs.lemmas.Bool.{cases_lt, cases_eq, eq-eqb, ne_eqb}
-use Rattle.std.proofs.lemmas.List.{take_more, map-append, append-nil, get_or-set_same, get_or-set_other, length-set}
+use Rattle.std.proofs.lemmas.List.{take_more, map-append, append-nil, get_or-set_same, get_or-set_other}
 use Rattle.finite_lists.specs.Members.{In, Distinct}
-use Rattle.finite_lists.proofs.Lists.{In_at, In_take, In-append_cases}
+use Rattle.finite_lists.proofs.Lists.{In_at, In-append_cases}
 use Rattle.topos_model.specs.categories.Category.{Category, into, dom}
-use Rattle.topos_model.specs.Laws.{IsInto}
-use Rattle.topos_model.proofs.ArrowsInto.{In-into, In-into_from}
 use Rattle.sieve_table.proofs.SieveMembers.{Distinct-into}
 use Rattle.place_closures.specs.Pairs.{starts, pairs, start}
 use Rattle.place_closures.proofs.PairNumbers.{total, length-joined, starts-same, starts-other}

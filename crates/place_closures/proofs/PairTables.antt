@@ -1,6 +1,5 @@
 -- The tables of pairs close as two passes must, and the sets that they leave are those that are closed under restriction and under covers.
-use Rattle.std.proofs.Common.{◌≡◌, ℕ, ◌+◌, ◌<◌, ◌≤◌, Bool, true, false, inl, inr, List, [], ◌∷◌, length, get_or, map, refl, sym, ap, subst, ◌∙◌, arith}
-use Rattle.std.specs.List.{list_any, flat_map, range_with_len}
+use Rattle.std.proofs.Common.{◌≡◌, ℕ, ◌+◌, ◌<◌, Bool, true, false, inl, inr, List, [], length, get_or, sym, ap, subst, ◌∙◌, arith}
 use Rattle.std.proofs.lemmas.Bool.{cases_lt}
 use Rattle.std.proofs.lemmas.List.{get_or_past}
 use Rattle.finite_lists.specs.Members.{In}
@@ -15,8 +14,8 @@ use Rattle.sieve_table.proofs.SieveMembers.{Distinct-into, goes, comes, regroup}
 use Rattle.topologies.proofs.LeastCovers.{least-into, sink, split}
 use Rattle.place_closures.specs.Passes.{two_passes, IsRestrictionClosed, IsCoverClosed, Has, AreTables}
 use Rattle.place_closures.specs.PassLaws.{passes_move, passes_cover, closed_passes}
-use Rattle.place_closures.specs.Pairs.{AreRestricted, pairs, start, moved, table, has_pair, IsClosedSet}
-use Rattle.place_closures.proofs.PairNumbers.{length-joined, start_within, at_start, pair_at, number_within, number_of_pair, same_pair}
+use Rattle.place_closures.specs.Pairs.{AreRestricted, pairs, start, moved, table, IsClosedSet}
+use Rattle.place_closures.proofs.PairNumbers.{length-joined, start_within, at_start, pair_at, number_within, number_of_pair}
 
 module _ (k : Category) (size : ℕ → ℕ) (move : ℕ → ℕ → ℕ) (M : ℕ → List ℕ) where
   abbrev rows : ℕ → List (List ℕ)

@@ -3,17 +3,16 @@ use Rattle.std.proofs.Common.{◌≡◌, ℕ, ◌+◌, ◌<◌, ◌≤◌, Bool,
 use Rattle.std.proofs.Math.Seq.{drop-cons}
 use Rattle.std.proofs.Math.ListN.{drop_of_length-le}
 use Rattle.std.specs.List.{list_all}
-use Rattle.std.proofs.lemmas.Bool.{cases_lt, cases_eq, or_cases, or_left, or_right, eqb-true, eq-eqb, ne_eqb}
-use Rattle.std.proofs.lemmas.List.{length-set, get_or-set_same, get_or-set_other}
-use Rattle.finite_lists.specs.Members.{In}
+use Rattle.std.proofs.lemmas.Bool.{cases_eq, or_cases, or_left, or_right, eqb-true, eq-eqb, ne_eqb}
+use Rattle.std.proofs.lemmas.List.{get_or-set_same, get_or-set_other}
 use Rattle.finite_lists.proofs.Lists.{each_all, all_each}
 use Rattle.topos_model.specs.categories.Category.{has}
 use Rattle.fin_category.proofs.ArrowLists.{has-In, In-has}
 use Rattle.closed_sets.specs.Closed.{IsBelow}
 use Rattle.closed_sets.specs.Ideals.{lowered}
 use Rattle.closed_sets.specs.IdealLaws.{in_list, length-lowered}
-use Rattle.place_closures.specs.Passes.{moves, covered, two_passes, IsRestrictionClosed, IsCoverClosed, Has, AreTables}
-use Rattle.place_closures.specs.PassLaws.{same_places, length-covered, In-covered, In-covered_from, In-restricted_from, restricted_extends, restricted_moves, restricted_least, covered_covers, covered_extends}
+use Rattle.place_closures.specs.Passes.{moves, covered, Has, AreTables}
+use Rattle.place_closures.specs.PassLaws.{same_places, length-covered, In-covered_from, In-restricted_from, restricted_moves, covered_covers}
 
 or_no : (b : Bool) → (b || false) ≡ b
 or_no true = refl

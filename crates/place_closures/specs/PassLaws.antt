@@ -1,16 +1,15 @@
 -- Two passes are a closure, and a set is closed by them exactly if each place moves within it, and it has each place whose cover it has.
-use Rattle.std.proofs.Common.{◌≡◌, ℕ, ◌+◌, ◌<◌, ◌≤◌, Bool, true, false, ◌||◌, inl, inr, List, [], length, get_or, eqb, refl, sym, ap, subst, ◌∙◌, arith}
+use Rattle.std.proofs.Common.{◌≡◌, ℕ, ◌+◌, ◌<◌, Bool, true, false, inl, inr, List, [], length, get_or, eqb, refl, sym, subst, ◌∙◌, arith}
 use Rattle.std.specs.List.{list_all}
 use Rattle.std.proofs.lemmas.Bool.{or_cases, or_left, or_right, eqb-true, eq-eqb}
 use Rattle.std.proofs.lemmas.List.{same_lists, get_or_default}
 use Rattle.std.proofs.lemmas.List.FromFn.{length-map-range_with_len, get_or-map-range_with_len}
-use Rattle.finite_lists.specs.Members.{In}
 use Rattle.finite_lists.proofs.Lists.{same_tests, any_some, all_each, each_all}
 use Rattle.topos_model.specs.categories.Category.{has}
 use Rattle.fin_category.proofs.ArrowLists.{has-In, In-has}
 use Rattle.closed_sets.specs.Closed.{IsBelow, IsClosure}
-use Rattle.closed_sets.specs.Ideals.{is_below_some, lowered}
-use Rattle.closed_sets.specs.IdealLaws.{in_list, some_place, place_some, length-lowered, read as read_lowered, lowered_closure}
+use Rattle.closed_sets.specs.Ideals.{lowered}
+use Rattle.closed_sets.specs.IdealLaws.{in_list, some_place, place_some, length-lowered, read as read_lowered}
 use Rattle.place_closures.specs.Passes.{moves, covered, two_passes, IsRestrictionClosed, IsCoverClosed, Has, AreTables}
 
 -- lists of truth values with the same places are one

@@ -1,5 +1,5 @@
-use Rattle.std.proofs.Common.{◌≡◌, ◌<◌, ◌≤◌, ℕ, false, true, length, get_or, drop, sym, ap, ◌∙◌, arith, refl}
-use Rattle.place_closures.proofs.PassSteps.{drop_has, all-step, all-end, all-fails}
+use Rattle.std.proofs.Common.{false, get_or, sym, ◌∙◌, arith, refl}
+use Rattle.place_closures.proofs.PassSteps.{drop_has, all-step, all-end}
 use Rattle.place_closures.proofs.passes.has_all.Goals as goal
 
 pub loop-j-init : goal.loop-j-init

@@ -1,10 +1,9 @@
-use Rattle.std.proofs.Common.{◌≡◌, ℕ, ◌+◌, ◌<◌, ◌≤◌, length, get_or, sym, ap, subst, ◌∙◌, arith}
+use Rattle.std.proofs.Common.{◌≡◌, ◌<◌, get_or, sym, ap, subst, ◌∙◌, arith}
 use Rattle.finite_lists.proofs.Lists.{In_at}
 use Rattle.topos_model.specs.categories.Category.{dom, compose}
 use Rattle.sieve_table.proofs.SieveMembers.{goes, comes}
 use Rattle.place_closures.specs.Pairs.{start}
 use Rattle.place_closures.proofs.PairNumbers.{number_within}
-use Rattle.place_closures.proofs.PairRows.{mapped_more}
 use Rattle.place_closures.proofs.tables.moved_row.Goals as goal
 
 pub compose-requires-clause-first : goal.compose-requires-clause-first

@@ -2,7 +2,6 @@ use Rattle.std.proofs.Common.{◌≡◌, ℕ, List, sym, ap, subst, ◌∙◌}
 use Rattle.topos_model.specs.categories.Category.{Category, into}
 use Rattle.topos_model.specs.Laws.{IsCategory, IsTopology}
 use Rattle.topos_model.specs.topologies.Cover.{Site}
-use Rattle.topos_model.specs.topologies.LeastCovers.{least}
 use Rattle.place_closures.specs.Passes.{AreTables}
 use Rattle.place_closures.specs.Pairs.{table}
 use Rattle.place_closures.proofs.PairTables.{tables}

@@ -1,11 +1,10 @@
 use Rattle.std.proofs.Common.{◌≡◌, ℕ, ◌+◌, ◌<◌, ◌≤◌, length, get_or, take, refl, sym, ap, subst, ◌∙◌, arith}
 use Rattle.std.proofs.lemmas.List.{length-set, take_all}
 use Rattle.finite_lists.specs.Members.{In}
-use Rattle.topos_model.specs.categories.Category.{into, dom}
-use Rattle.topos_model.specs.Laws.{IsInto}
+use Rattle.topos_model.specs.categories.Category.{dom}
 use Rattle.topos_model.proofs.ArrowsInto.{In-into, In-into_from}
 use Rattle.finite_lists.proofs.Lists.{In_at}
-use Rattle.place_closures.specs.Pairs.{start, pairs}
+use Rattle.place_closures.specs.Pairs.{pairs}
 use Rattle.place_closures.proofs.PairNumbers.{total}
 use Rattle.place_closures.proofs.PairRows.{pairs-total, total_more, total_within, starts_more}
 use Rattle.place_closures.proofs.tables.pair_starts.Goals as goal

@@ -1,4 +1,4 @@
-use Rattle.std.proofs.Common.{◌≡◌, false, true, length, get_or, sym, ap, subst, ◌∙◌}
+use Rattle.std.proofs.Common.{length, sym, ap, subst, ◌∙◌}
 use Rattle.closed_sets.specs.IdealLaws.{length-lowered}
 use Rattle.place_closures.specs.Passes.{moves, covered, two_passes, IsRestrictionClosed}
 use Rattle.place_closures.specs.PassLaws.{restricted_moves}
