@@ -1,13 +1,7 @@
-// A library with one function.
+//! The truth values of a site: its closed sieves, by their numbers, and the operations on them.
 #![tactic(auto)]
 
-ghost use Rattle.std.specs.Prelude.{◌≡◌};
-ghost use Rattle.omega_object.specs.Echo.{echo_of};
+mod omega;
+mod search;
 
-// The `ensures` clause is the contract: what `echo` returns is `echo_of` of its argument, a definition
-// in `specs/Echo.antt`, which a caller's clause can cite too.
-pub fn echo(x: usize) -> usize
-    ensures { result ≡ echo_of x }
-{
-    x
-}
+pub use omega::Omega;

@@ -1,0 +1,3 @@
+pub mod Precedence
+pub mod ClosedSieves
+pub mod Operations
