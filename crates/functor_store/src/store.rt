@@ -106,6 +106,7 @@ impl FunctorStore {
     /// How many cells more the budget allows.
     pub fn room(&self) -> u64
         ensures room { result + cells self.now ≡ self.now.budget }
+        ensures bounded { self.now.budget ≤ 64_000_000 }
     {
         self.budget - self.cells
     }

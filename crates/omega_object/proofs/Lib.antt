@@ -1,3 +1,5 @@
 pub mod Precedence
 pub mod ClosedSieves
 pub mod Operations
+pub mod ChosenArrows
+pub mod CellSums

@@ -33,6 +33,14 @@ pub none_left : (p : ℕ → Bool) (S : List ℕ) → all_added S (filter p []) 
 unfolding all_added
 none_left p S = refl
 
+pub added_next : (h : ℕ → ℕ) (S T rest : List ℕ) (g : ℕ) → T ≡ added (h g) S → all_added T (map h rest) ≡ all_added S (map h (g ∷ rest))
+unfolding all_added
+added_next h S T rest g e = ap (λ U. all_added U (map h rest)) e
+
+pub added_none : (S : List ℕ) → all_added S [] ≡ S
+unfolding all_added
+added_none S = refl
+
 module _ (k : Category) (few : length k.ends ≤ 512) where
   In-composites_of : (c f g : ℕ) (gs : List ℕ) → IsCategory k → IsInto k c f → IsInto k (dom k f) g → In gs g → In (composites_of k f gs) (compose k f g)
   unfolding composites_of

@@ -1,7 +1,9 @@
 -- Sublists of a rising list rise by their first differences, and a set is found by halving.
-use Rattle.std.proofs.Common.{◌≡◌, ℕ, zero, suc, ◌+◌, ◌<◌, ◌≤◌, Bool, true, false, not, ◌⊎◌, inl, inr, List, [], ◌∷◌, length, get_or, map, refl, sym, ap, subst, ◌∙◌, arith}
+use Rattle.std.proofs.Common.{◌≡◌, ℕ, zero, suc, ◌+◌, ◌<◌, ◌≤◌, Bool, true, false, not, ◌⊎◌, inl, inr, List, [], ◌∷◌, ◌++◌, length, get_or, map, refl, sym, ap, subst, ◌∙◌, arith}
 use Rattle.std.proofs.lemmas.Bool.{cases_lt, cases_eq}
-use Rattle.std.proofs.lemmas.List.{get_or_default}
+use Rattle.std.specs.List.{range_with_len}
+use Rattle.std.proofs.lemmas.List.{get_or_default, length-map, map-append}
+use Rattle.std.proofs.lemmas.List.FromFn.{length-map-range_with_len, get_or-map-range_with_len, map-range_with_len_more}
 use Rattle.finite_lists.specs.Members.{In}
 use Rattle.finite_lists.specs.Rising.{Rising, SublistBelow}
 use Rattle.finite_lists.proofs.Lists.{same_tests, In_at, In_Contains}
@@ -120,3 +122,18 @@ mapped_at h (x ∷ xs) (suc i) d e low = mapped_at h xs i d e (omega (arith, low
 -- a member stands at some place
 pub stands : {A : Type 0} (xs : List A) (x d : A) → In xs x → (i : ℕ) × (i < length xs) × (get_or xs i d ≡ x)
 stands xs x d i = let r = In_Contains xs x i in (r.0, r.1, get_or_default xs r.0 d x r.1 ∙ r.2)
+
+-- one image more
+pub mapped_pushed : {A B : Type 0} (h : A → B) (g : ℕ → B) (row new : List A) (x : A) (c : ℕ) → new ≡ row ++ x ∷ [] → map h row ≡ map g (range_with_len 0 c) → h x ≡ g c →
+    map h new ≡ map g (range_with_len 0 (c + 1))
+mapped_pushed h g row new x c e is same =
+    ap (map h) e ∙ map-append h row (x ∷ []) ∙ ap (λ l. l ++ h x ∷ []) is ∙ ap (λ y. map g (range_with_len 0 c) ++ y ∷ []) same ∙ sym (map-range_with_len_more g 0 c c (omega arith))
+
+-- an image by its number
+pub numbered_at : {A B : Type 0} (h : A → B) (g : ℕ → B) (row : List A) (n c : ℕ) (d : A) → map h row ≡ map g (range_with_len 0 n) → c < n → h (get_or row c d) ≡ g c
+numbered_at h g row n c d e low =
+    let l : length row ≡ n = sym (length-map row h) ∙ ap length e ∙ length-map-range_with_len g 0 n in
+    sym (mapped_at h row c d (h d) (omega (arith, low, l))) ∙ ap (λ xs. get_or xs c (h d)) e ∙ get_or-map-range_with_len g 0 n c c (h d) low (omega arith)
+
+pub numbered_length : {A B : Type 0} (h : A → B) (g : ℕ → B) (row : List A) (n : ℕ) → map h row ≡ map g (range_with_len 0 n) → length row ≡ n
+numbered_length h g row n e = sym (length-map row h) ∙ ap length e ∙ length-map-range_with_len g 0 n

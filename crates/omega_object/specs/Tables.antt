@@ -1,5 +1,6 @@
 -- The truth values of a site as the code keeps them.
-use Rattle.std.specs.Prelude.{◌≡◌, ℕ, ◌<◌, ◌≤◌, List, [], length, get_or, map}
+use Rattle.std.specs.Prelude.{◌≡◌, ℕ, ◌+◌, ◌*◌, ◌<◌, ◌≤◌, List, [], length, get_or, map, sum}
+use Rattle.std.specs.List.{range_with_len}
 use Rattle.finite_lists.specs.Members.{In}
 use Rattle.topos_model.specs.categories.Category.{Category, into, dom, compose}
 use Rattle.topos_model.specs.topologies.Cover.{Site}
@@ -41,3 +42,7 @@ pub record IsInRange (omega : Omega) (c : ℕ) : Type 0 where
   pub object : c < length omega.into
   pub below : (f : ℕ) → In (mask_at omega.into c) f → f < length omega.below
   pub covers : (f : ℕ) → In (mask_at omega.into c) f → f < length omega.covers
+
+-- the cells of all closed sieves
+unfoldable pub sieve_cells : Site → ℕ
+sieve_cells s = sum (map (λ c. length (closed_sieves s c) * (1 + length (into s.category c))) (range_with_len 0 s.category.objects))

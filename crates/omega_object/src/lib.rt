@@ -1,7 +1,9 @@
 //! The truth values of a site: its closed sieves, by their numbers, and the operations on them.
 #![tactic(auto)]
 
+mod listing;
 mod omega;
 mod search;
+mod tables;
 
 pub use omega::Omega;

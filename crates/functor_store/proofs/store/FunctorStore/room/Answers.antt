@@ -11,4 +11,5 @@ returns c =
     let e : c.self.inside.cells ≡ cells c.args.self.now = cells_are c.self.inside c.self.invariant ∙ ap cells c.self.view_is in
     let b : c.self.inside.budget ≡ c.args.self.now.budget = ap (λ v. v.budget) c.self.view_is in
     let w = c.self.invariant.within in
-    record { room = omega arith }
+    let m = c.self.invariant.bounded in
+    record { room = omega arith; bounded = omega arith }
