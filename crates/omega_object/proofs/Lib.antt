@@ -3,3 +3,4 @@ pub mod ClosedSieves
 pub mod Operations
 pub mod ChosenArrows
 pub mod CellSums
+pub mod SealedSieves

@@ -2,6 +2,7 @@
 #![tactic(auto)]
 
 mod listing;
+mod need;
 mod omega;
 mod search;
 mod tables;

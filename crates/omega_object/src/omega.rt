@@ -29,8 +29,8 @@ impl Omega {
     ghost use Rattle.omega_object.specs.TruthValues.{IsNumber, closed_sieves, sieve_at, implication};
     ghost use Rattle.omega_object.specs.Tables.{IsOmegaOn, IsInRange, mask_at, rows_at};
 
-    // The closed sieve number k on c.
-    fn sieve(&self, c: u32, k: u32) -> ArrowMask
+    /// The closed sieve number k on c.
+    pub(crate) fn sieve(&self, c: u32, k: u32) -> ArrowMask
         requires object { c < length self.now.sieves }
         requires number { k < length (rows_at self.now c) }
         ensures { arrows_in result ≡ mask_at (rows_at self.now c) k }
@@ -38,8 +38,17 @@ impl Omega {
         *self.sieves.get(c as usize).get(k as usize)
     }
 
-    // The number of a closed sieve on c.
-    fn number(&self, c: u32, sieve: ArrowMask) -> u32
+    /// How many closed sieves there are on c.
+    pub(crate) fn count(&self, c: u32) -> u32
+        requires object { c < length self.now.sieves }
+        requires few { length (rows_at self.now c) < 2 ^ 32 }
+        ensures { result ≡ length (rows_at self.now c) }
+    {
+        self.sieves.get(c as usize).len() as u32
+    }
+
+    /// The number of a closed sieve on c.
+    pub(crate) fn number(&self, c: u32, sieve: ArrowMask) -> u32
         requires object { c < length self.now.sieves }
         requires few { length (rows_at self.now c) < 2 ^ 32 }
         ensures { (s : Site) → IsOmegaOn s self.now → In (closed_sieves s c) (arrows_in sieve) → IsNumber s c result (arrows_in sieve) }
