@@ -1,28 +1,26 @@
 -- The sets of arrows into an object that the two passes leave choose its closed sieves.
-use Rattle.std.proofs.Common.{◌≡◌, ℕ, zero, suc, ◌+◌, ◌<◌, ◌≤◌, Bool, true, false, ◌&&◌, cond, ◌⊎◌, inl, inr, List, [], ◌∷◌, length, get_or, map, drop, filter, eqb, refl, sym, ap, subst, ◌∙◌, add-one, arith}
+use Rattle.std.proofs.Common.{◌≡◌, ℕ, zero, suc, ◌+◌, ◌<◌, ◌≤◌, Bool, true, false, ◌&&◌, ◌⊎◌, inl, inr, List, [], ◌∷◌, length, get_or, map, drop, filter, refl, sym, ap, subst, ◌∙◌, add-one, arith}
 use Rattle.std.proofs.Math.Seq.{drop-cons}
 use Rattle.std.proofs.Math.ListN.{drop_of_length-le}
-use Rattle.std.specs.List.{list_all, flat_map, range_with_len}
 use Rattle.std.proofs.lemmas.Bool.{cases_eq, and_parts, and_from}
-use Rattle.std.proofs.lemmas.List.{length-map}
 use Rattle.finite_lists.specs.Members.{In, Distinct}
 use Rattle.finite_lists.specs.Sublists.{sublists}
-use Rattle.finite_lists.proofs.Lists.{same_tests, In-append_left, In-append_right, In-append_cases, In-map, In-map_from, In-filter, In-filter_from, filter_filter, filter_same, map_same, In_at, all_each, each_all}
-use Rattle.topos_model.specs.categories.Category.{Category, has, into, dom, compose, sieves, is_sieve}
+use Rattle.finite_lists.proofs.Lists.{same_tests, In-append_left, In-append_right, In-append_cases, In-map, In-map_from, In-filter, In-filter_from, filter_filter}
+use Rattle.topos_model.specs.categories.Category.{Category, into, dom, compose, sieves, is_sieve}
 use Rattle.topos_model.specs.topologies.Cover.{Site}
 use Rattle.topos_model.specs.Laws.{IsCategory, IsInto, IsTopology}
 use Rattle.topos_model.specs.types.Types.{is_closed_sieve}
 use Rattle.topos_model.specs.topologies.LeastCovers.{least}
 use Rattle.topos_model.proofs.ArrowsInto.{In-into, In-into_from}
 use Rattle.fin_category.specs.Masks.{added, all_added}
-use Rattle.fin_category.proofs.ArrowLists.{has-In, In-has, Rises, Rises-into, all_added-rising}
-use Rattle.sieve_table.proofs.SieveMembers.{IsSieve, Distinct-into, sieve_of, goes, comes}
+use Rattle.fin_category.proofs.ArrowLists.{Rises, Rises-into, all_added-rising}
+use Rattle.sieve_table.proofs.SieveMembers.{Distinct-into, goes}
 use Rattle.topologies.proofs.LeastCovers.{least-into}
 use Rattle.closed_sets.specs.Closed.{bits, chosen, is_closed, closed_lists}
 use Rattle.closed_sets.proofs.Bits.{closed_is, is_closed_from}
 use Rattle.closed_sets.proofs.Chosen.{chosen-closed}
 use Rattle.place_closures.specs.Passes.{two_passes}
-use Rattle.place_closures.specs.Pairs.{AreRestricted, CanAsk, starts, pairs, start, table, has_pair, IsClosedSet}
+use Rattle.place_closures.specs.Pairs.{AreRestricted, starts, pairs, start, table, has_pair}
 use Rattle.place_closures.proofs.PairNumbers.{total, length-joined, starts-same, starts-other}
 use Rattle.place_closures.proofs.PairTables.{length-table, closed_set, set_closed}
 use Rattle.omega_object.specs.TruthValues.{closed_sieves}

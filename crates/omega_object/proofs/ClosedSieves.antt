@@ -1,10 +1,10 @@
 -- Closed sieves: which sieves are closed, and that meets, joins and implications of closed sieves are.
-use Rattle.std.proofs.Common.{◌≡◌, ℕ, ◌<◌, true, inl, inr, List, [], ◌∷◌, filter, refl, sym, ap, subst, ◌∙◌}
-use Rattle.finite_lists.specs.Members.{In, Distinct}
+use Rattle.std.proofs.Common.{◌≡◌, ℕ, inl, inr, List, [], ◌∷◌, filter, refl, sym, subst, ◌∙◌}
+use Rattle.finite_lists.specs.Members.{In}
 use Rattle.finite_lists.specs.Rising.{Rising, SublistBelow}
 use Rattle.finite_lists.specs.Sublists.{sublists}
 use Rattle.finite_lists.proofs.Lists.{same_tests, In-filter, In-filter_from, sublist_within}
-use Rattle.finite_lists.proofs.RisingLists.{Rising-filter, Rising-map, Rising-sublists}
+use Rattle.finite_lists.proofs.RisingLists.{Rising-filter, Rising-sublists}
 use Rattle.topos_model.specs.categories.Category.{Category, has, into, dom, compose, sieves, is_sieve, pull}
 use Rattle.topos_model.specs.topologies.Cover.{Site, contains}
 use Rattle.topos_model.specs.Laws.{IsCategory, IsInto, IsTopology}
@@ -13,9 +13,9 @@ use Rattle.topos_model.specs.topologies.LeastCovers.{least, closure}
 use Rattle.topos_model.specs.topologies.TopologyFaults.{intersection}
 use Rattle.topos_model.proofs.ArrowsInto.{In-into, In-into_from}
 use Rattle.fin_category.proofs.ArrowLists.{In-has, contains-each, each-contains, Rises-into, In-intersection, In-intersection_from}
-use Rattle.sieve_table.proofs.SieveMembers.{IsSieve, Distinct-into, sieve_of, of_sieve, same_sieve, In-pull, In-pull_from, pull-sieve, intersection-sieve, maximal-sieve, filter-sieve, goes, comes, source, regroup, object, domain}
+use Rattle.sieve_table.proofs.SieveMembers.{IsSieve, Distinct-into, sieve_of, same_sieve, In-pull, In-pull_from, pull-sieve, intersection-sieve, maximal-sieve, filter-sieve, goes, comes, source, regroup, domain}
 use Rattle.topologies.proofs.LeastCovers.{least-into, sink}
-use Rattle.topologies.proofs.Closure.{In-closure_from, In-closure_least, closure_least_In, closure-sieve, closure-extensive, closure_closed, closure_below, closure-pull}
+use Rattle.topologies.proofs.Closure.{In-closure_from, In-closure_least, closure_least_In, closure-sieve, closure-extensive, closure_closed, closure_below}
 use Rattle.omega_object.specs.TruthValues.{closed_sieves, implication, Precedes}
 use Rattle.omega_object.proofs.Precedence.{precedes}
 

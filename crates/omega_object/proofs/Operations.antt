@@ -3,9 +3,9 @@ use Rattle.std.proofs.Common.{◌≡◌, ℕ, ◌<◌, ◌≤◌, Bool, true, fa
 use Rattle.std.proofs.lemmas.List.{length-map}
 use Rattle.finite_lists.specs.Members.{In}
 use Rattle.finite_lists.proofs.Lists.{In_at, In-map, In-map_from, In-filter, In-filter_from}
-use Rattle.topos_model.specs.categories.Category.{Category, has, into, dom, compose, pull}
+use Rattle.topos_model.specs.categories.Category.{Category, into, dom, compose, pull}
 use Rattle.topos_model.specs.topologies.Cover.{Site, contains}
-use Rattle.topos_model.specs.Laws.{IsCategory, IsInto, IsTopology}
+use Rattle.topos_model.specs.Laws.{IsCategory, IsInto}
 use Rattle.topos_model.specs.topologies.LeastCovers.{least, closure}
 use Rattle.topos_model.specs.topologies.TopologyFaults.{intersection}
 use Rattle.topos_model.proofs.ArrowsInto.{In-into, In-into_from}
@@ -19,7 +19,6 @@ use Rattle.omega_object.specs.declared.omega.Omega.{Omega}
 use Rattle.omega_object.specs.TruthValues.{closed_sieves, sieve_at, implication, IsNumber}
 use Rattle.omega_object.specs.Tables.{mask_at, rows_at, composites_of, IsOmegaOn, IsInRange}
 use Rattle.omega_object.proofs.Precedence.{mapped_at}
-use Rattle.omega_object.proofs.ClosedSieves.{closed_sieve, meet_in, implication_in, closure_in, maximal_in}
 
 -- the arrows that pass a test, put into a set one after another
 pub passed : (p : ℕ → Bool) (S rest : List ℕ) (f : ℕ) → p f ≡ true → all_added (added f S) (filter p rest) ≡ all_added S (filter p (f ∷ rest))

@@ -1,30 +1,28 @@
 -- The functor of the closed sieves, as it is sealed.
-use Rattle.std.proofs.Common.{◌≡◌, ℕ, zero, suc, ◌+◌, ◌-◌, ◌*◌, ◌<◌, ◌≤◌, Bool, true, false, cond, inl, inr, List, [], ◌∷◌, ◌++◌, length, get_or, map, take, drop, filter, sum, eqb, slice_range, refl, sym, ap, subst, ◌∙◌, arith}
+use Rattle.std.proofs.Common.{◌≡◌, ℕ, zero, suc, ◌+◌, ◌-◌, ◌*◌, ◌<◌, ◌≤◌, Bool, true, cond, inl, inr, List, [], ◌∷◌, ◌++◌, length, get_or, map, take, drop, filter, sum, eqb, slice_range, refl, sym, ap, subst, ◌∙◌, arith}
 use Rattle.std.specs.List.{range_with_len}
-use Rattle.std.proofs.Math.Nat.{le-mul_of_pos_right, mul-le-mul_right}
+use Rattle.std.proofs.Math.Nat.{le-mul_of_pos_right}
 use Rattle.std.proofs.lemmas.Bool.{eq-eqb}
-use Rattle.std.proofs.lemmas.List.{length-map, length-append, get_or-take, get_or-drop, get_or_append_left, get_or-append-add, append-nil, length-take-le}
+use Rattle.std.proofs.lemmas.List.{length-map, length-append, get_or-take, get_or-drop, get_or-append-add, length-take-le}
 use Rattle.std.proofs.lemmas.List.Elements.{filter-append}
-use Rattle.finite_lists.specs.Members.{In}
-use Rattle.finite_lists.proofs.Lists.{In_at, map_same, filter_same}
+use Rattle.finite_lists.proofs.Lists.{map_same, filter_same}
 use Rattle.finite_lists.proofs.DistinctLists.{In-range_from}
-use Rattle.topos_model.specs.declared.ty.Ty.{Ty, Base, Omega}
-use Rattle.topos_model.specs.declared.value.Val.{Val, Sv, Star}
+use Rattle.topos_model.specs.declared.ty.Ty.{Omega}
+use Rattle.topos_model.specs.declared.value.Val.{Sv, Star}
 use Rattle.topos_model.specs.declared.value.Val.TheVariants.{outs-Sv}
 use Rattle.topos_model.specs.categories.Category.{Category, into, dom, cod, pull}
 use Rattle.topos_model.specs.topologies.Cover.{Site}
-use Rattle.topos_model.specs.Laws.{IsCategory, IsInto}
+use Rattle.topos_model.specs.Laws.{IsCategory}
 use Rattle.topos_model.specs.types.Types.{Presheaf, elements, restr, omega_elements, omega_along}
 use Rattle.topos_model.specs.types.Values.{arrows_of, arrows_in}
-use Rattle.topos_model.specs.statements.Cells.{cells_of, width, objects_of}
+use Rattle.topos_model.specs.statements.Cells.{cells_of, width}
 use Rattle.topos_model.specs.statements.Needs.{parts}
 use Rattle.functor_store.specs.Store as store
 use Rattle.functor_store.specs.Store.{Functor, Store, place, size_at, element_at, restriction_along, functor_at, cost, cost_sealed}
-use Rattle.functor_store.specs.Faithful.{Holds, HasElements, IsFaithful, Stands}
-use Rattle.functor_store.proofs.Costs.{arrows_into, cost_is}
+use Rattle.functor_store.specs.Faithful.{HasElements, IsFaithful}
+use Rattle.functor_store.proofs.Costs.{arrows_into}
 use Rattle.functor_store.proofs.Faithful.{faithful_sealed}
 use Rattle.sealed_functors.specs.declared.rows.ElementRows.{ElementRows}
-use Rattle.sealed_functors.specs.Rows as sealed
 use Rattle.sealed_functors.specs.Rows.{part, element_rows, restriction_rows, functor_from, rows_at, AreShaped}
 use Rattle.sealed_functors.proofs.Groups.{length-parts, part_at, mapped_at}
 use Rattle.omega_object.specs.TruthValues.{closed_sieves, sieve_at, IsNumber}
@@ -78,8 +76,7 @@ place_is k f low =
     ∙ ap (λ t. filter p (range_with_len 0 f) ++ t) (kept_first p f (range_with_len (f + 1) (n - f - 1)) (eq-eqb c c refl)) in
     let first : List ℕ = filter p (range_with_len 0 f) in
     let rest : List ℕ = filter p (range_with_len (f + 1) (n - f - 1)) in
-    let here : length first + 0 ≡ length first = omega arith in
-    (
+    let here : length first + 0 ≡ length first = omega arith in (
       subst (λ l. store.into (take f k.ends) c < length l) (sym all) (omega (arith, count, length-append first (f ∷ rest))),
       ap (λ l. get_or l (store.into (take f k.ends) c) 0) all ∙ ap (λ m. get_or (first ++ (f ∷ rest)) m 0) (count ∙ sym here) ∙ get_or-append-add first (f ∷ rest) 0 0,
     )

@@ -23,31 +23,31 @@ abbrev pub mask_at : List ArrowMask → ℕ → List ℕ
 mask_at masks f = arrows_in (get_or masks f (record { words = [] }))
 
 abbrev pub rows_at : Omega → ℕ → List ArrowMask
-rows_at omega c = get_or omega.sieves c []
+rows_at values c = get_or values.sieves c []
 
 -- the composites f.g with g in a list
 unfoldable pub composites_of : Category → ℕ → List ℕ → List ℕ
 composites_of k f gs = all_added [] (map (compose k f) gs)
 
 -- for each object its closed sieves in order and the arrows into it, and for each arrow its composites with all arrows, and with those of the least cover of its domain
-pub record IsOmegaOn (s : Site) (omega : Omega) : Type 0 where
+pub record IsOmegaOn (s : Site) (values : Omega) : Type 0 where
   pub category : IsCategory s.category
   pub few : length s.category.ends ≤ max_arrows
   pub topology : IsTopology s
-  pub objects : length omega.sieves ≡ s.category.objects
-  pub into_objects : length omega.into ≡ s.category.objects
-  pub below_arrows : length omega.below ≡ length s.category.ends
-  pub cover_arrows : length omega.covers ≡ length s.category.ends
-  pub sieves : (c : ℕ) → c < s.category.objects → map arrows_in (rows_at omega c) ≡ closed_sieves s c
-  pub into_is : (c : ℕ) → c < s.category.objects → mask_at omega.into c ≡ into s.category c
-  pub below_is : (f : ℕ) → f < length s.category.ends → mask_at omega.below f ≡ composites_of s.category f (into s.category (dom s.category f))
-  pub covers_are : (f : ℕ) → f < length s.category.ends → mask_at omega.covers f ≡ composites_of s.category f (least s (dom s.category f))
+  pub objects : length values.sieves ≡ s.category.objects
+  pub into_objects : length values.into ≡ s.category.objects
+  pub below_arrows : length values.below ≡ length s.category.ends
+  pub cover_arrows : length values.covers ≡ length s.category.ends
+  pub sieves : (c : ℕ) → c < s.category.objects → map arrows_in (rows_at values c) ≡ closed_sieves s c
+  pub into_is : (c : ℕ) → c < s.category.objects → mask_at values.into c ≡ into s.category c
+  pub below_is : (f : ℕ) → f < length s.category.ends → mask_at values.below f ≡ composites_of s.category f (into s.category (dom s.category f))
+  pub covers_are : (f : ℕ) → f < length s.category.ends → mask_at values.covers f ≡ composites_of s.category f (least s (dom s.category f))
 
 -- the tables have what is asked of them at the object c
-pub record IsInRange (omega : Omega) (c : ℕ) : Type 0 where
-  pub object : c < length omega.into
-  pub below : (f : ℕ) → In (mask_at omega.into c) f → f < length omega.below
-  pub covers : (f : ℕ) → In (mask_at omega.into c) f → f < length omega.covers
+pub record IsInRange (values : Omega) (c : ℕ) : Type 0 where
+  pub object : c < length values.into
+  pub below : (f : ℕ) → In (mask_at values.into c) f → f < length values.below
+  pub covers : (f : ℕ) → In (mask_at values.into c) f → f < length values.covers
 
 -- the cells of all closed sieves
 unfoldable pub sieve_cells : Site → ℕ

@@ -5,6 +5,8 @@ mod listing;
 mod need;
 mod omega;
 mod search;
+mod store;
 mod tables;
 
 pub use omega::Omega;
+pub use store::empty_store;

@@ -20,12 +20,12 @@ use topos_model::{NoMemory, Row, Ty};
 // Puts the restrictions of the closed sieve number k on c behind the others.
 fn push_restrictions(
     site: &Site,
-    omega: &Omega,
+    values: &Omega,
     c: u32,
     k: u32,
     out: &mut Row<u32>,
 ) -> Result<(), NoMemory>
-    requires omega { IsOmegaOn site.now omega.now }
+    requires values { IsOmegaOn site.now values.now }
     requires few { sieve_cells site.now < 2 ^ 32 }
     requires object { c < site.now.category.objects }
     requires number { k < length (closed_sieves site.now c) }
@@ -33,25 +33,25 @@ fn push_restrictions(
 {
     let cat = site.cat();
     cat.laws();
-    let sieve = Sieve::new(c, omega.sieve(c, k));
+    let sieve = Sieve::new(c, values.sieve(c, k));
     for f in cat.arrows_into(c) {
         let pulled = sieve.pull(cat, *f);
-        out.push(omega.number(pulled.at(), pulled.arrows()))?;
+        out.push(values.number(pulled.at(), pulled.arrows()))?;
     }
     Ok(())
 }
 
 // The closed sieves on c with all their restrictions.
-fn sieve_rows(alloc: Global, site: &Site, omega: &Omega, c: u32) -> Result<ElementRows, NoMemory>
-    requires omega { IsOmegaOn site.now omega.now }
+fn sieve_rows(alloc: Global, site: &Site, values: &Omega, c: u32) -> Result<ElementRows, NoMemory>
+    requires values { IsOmegaOn site.now values.now }
     requires few { sieve_cells site.now < 2 ^ 32 }
     requires object { c < site.now.category.objects }
     ensures rows { IfOk result (λ rows. AreSieveRows site.now c rows) }
 {
-    let count = omega.count(c);
+    let count = values.count(c);
     let mut restrictions = Row::new(alloc);
     for k in 0..count {
-        push_restrictions(site, omega, c, k, &mut restrictions)?;
+        push_restrictions(site, values, c, k, &mut restrictions)?;
     }
     Ok(ElementRows {
         count,
@@ -63,15 +63,15 @@ fn sieve_rows(alloc: Global, site: &Site, omega: &Omega, c: u32) -> Result<Eleme
 }
 
 // The same at each object.
-fn all_sieve_rows(alloc: Global, site: &Site, omega: &Omega) -> Result<Row<ElementRows>, NoMemory>
-    requires omega { IsOmegaOn site.now omega.now }
+fn all_sieve_rows(alloc: Global, site: &Site, values: &Omega) -> Result<Row<ElementRows>, NoMemory>
+    requires values { IsOmegaOn site.now values.now }
     requires few { sieve_cells site.now < 2 ^ 32 }
     ensures objects { IfOk result (λ all. length all ≡ site.now.category.objects) }
     ensures rows { IfOk result (λ all. (c : ℕ) → c < site.now.category.objects → AreSieveRows site.now c (rows_at all c)) }
 {
     let mut all = Row::new(alloc);
     for c in 0..site.cat().objects() {
-        all.push(sieve_rows(alloc, site, omega, c)?)?;
+        all.push(sieve_rows(alloc, site, values, c)?)?;
     }
     Ok(all)
 }
@@ -82,7 +82,7 @@ impl Omega {
     pub fn need(alloc: Global, store: &mut FunctorStore, site: &Site) -> Result<Omega, StoreFault>
         requires idle { store.old.building ≡ None }
         requires faithful { (functors : List Presheaf) × IsFaithful site.now functors store.old }
-        ensures omega { IfOk result (λ omega. IsOmegaOn site.now omega) }
+        ensures values { IfOk result (λ values. IsOmegaOn site.now values) }
         ensures needed { OnOk result (IsNeeded OmegaType store.old store.new) }
         ensures faithful { (functors : List Presheaf) → IsFaithful site.now functors store.old → IsFaithful site.now functors store.new }
         ensures err { OnErr result (store.new ≡ store.old) }
@@ -91,15 +91,15 @@ impl Omega {
         let room = store.room();
         match store.find(&Ty::Omega) {
             Some(_) => match omega_within(alloc, site, store.cells())? {
-                Some(omega) => Ok(omega),
+                Some(values) => Ok(values),
                 None => unreachable!(),
             },
             None => match omega_within(alloc, site, room)? {
                 None => Err(StoreFault::Over),
-                Some(omega) => {
-                    let rows = all_sieve_rows(alloc, site, &omega)?;
+                Some(values) => {
+                    let rows = all_sieve_rows(alloc, site, &values)?;
                     match seal_rows(store, Ty::Omega, rows.as_slice()) {
-                        Ok(_) => Ok(omega),
+                        Ok(_) => Ok(values),
                         Err(fault) => Err(fault),
                     }
                 }

@@ -22,6 +22,7 @@ pub struct Omega {
     pub(crate) into: Row<ArrowMask>,
     pub(crate) below: Row<ArrowMask>,
     pub(crate) covers: Row<ArrowMask>,
+    ghost few: { (c : ℕ) → length (get_or sieves c []) < 2 ^ 32 },
 }
 
 impl Omega {
@@ -39,9 +40,8 @@ impl Omega {
     }
 
     /// How many closed sieves there are on c.
-    pub(crate) fn count(&self, c: u32) -> u32
+    pub fn count(&self, c: u32) -> u32
         requires object { c < length self.now.sieves }
-        requires few { length (rows_at self.now c) < 2 ^ 32 }
         ensures { result ≡ length (rows_at self.now c) }
     {
         self.sieves.get(c as usize).len() as u32
@@ -50,7 +50,6 @@ impl Omega {
     /// The number of a closed sieve on c.
     pub(crate) fn number(&self, c: u32, sieve: ArrowMask) -> u32
         requires object { c < length self.now.sieves }
-        requires few { length (rows_at self.now c) < 2 ^ 32 }
         ensures { (s : Site) → IsOmegaOn s self.now → In (closed_sieves s c) (arrows_in sieve) → IsNumber s c result (arrows_in sieve) }
     {
         number_among(self.sieves.get(c as usize).as_slice(), sieve)
@@ -89,7 +88,6 @@ impl Omega {
     /// The sieve of the arrows of both.
     pub fn meet(&self, c: u32, a: u32, b: u32) -> u32
         requires object { c < length self.now.sieves }
-        requires few { length (rows_at self.now c) < 2 ^ 32 }
         requires first { a < length (rows_at self.now c) }
         requires second { b < length (rows_at self.now c) }
         ensures { (s : Site) → IsOmegaOn s self.now → IsNumber s c result (intersection (sieve_at s c a) (sieve_at s c b)) }
@@ -100,7 +98,6 @@ impl Omega {
     /// The closure of the arrows of either.
     pub fn join(&self, c: u32, a: u32, b: u32) -> u32
         requires object { c < length self.now.sieves }
-        requires few { length (rows_at self.now c) < 2 ^ 32 }
         requires first { a < length (rows_at self.now c) }
         requires second { b < length (rows_at self.now c) }
         requires site { IsInRange self.now c }
@@ -113,7 +110,6 @@ impl Omega {
     /// The arrows along which the first sieve pulls back within the second.
     pub fn implies(&self, c: u32, a: u32, b: u32) -> u32
         requires object { c < length self.now.sieves }
-        requires few { length (rows_at self.now c) < 2 ^ 32 }
         requires first { a < length (rows_at self.now c) }
         requires second { b < length (rows_at self.now c) }
         requires site { IsInRange self.now c }
@@ -126,7 +122,6 @@ impl Omega {
     /// The closure of the empty sieve.
     pub fn least(&self, c: u32) -> u32
         requires object { c < length self.now.sieves }
-        requires few { length (rows_at self.now c) < 2 ^ 32 }
         requires site { IsInRange self.now c }
         ensures { (s : Site) → IsOmegaOn s self.now → IsNumber s c result (closure s c []) }
     {
@@ -136,7 +131,6 @@ impl Omega {
     /// The sieve of all arrows.
     pub fn greatest(&self, c: u32) -> u32
         requires object { c < length self.now.sieves }
-        requires few { length (rows_at self.now c) < 2 ^ 32 }
         requires site { IsInRange self.now c }
         ensures { (s : Site) → IsOmegaOn s self.now → IsNumber s c result (into s.category c) }
     {

@@ -75,12 +75,9 @@ fn covers_each(alloc: Global, site: &Site) -> Result<Row<ArrowMask>, NoMemory>
 }
 
 /// The truth values of a site, where the cells of their functor are within the room.
-pub(crate) fn omega_within(
-    alloc: Global,
-    site: &Site,
-    room: u64,
-) -> Result<Option<Omega>, NoMemory>
-    ensures { IfOk result (λ made. MatchOption made (room < sieve_cells site.now) (λ omega. IsOmegaOn site.now omega × (sieve_cells site.now ≤ room))) }
+pub(crate) fn omega_within(alloc: Global, site: &Site, room: u64) -> Result<Option<Omega>, NoMemory>
+    requires { room < 2 ^ 32 }
+    ensures { IfOk result (λ made. MatchOption made (room < sieve_cells site.now) (λ values. IsOmegaOn site.now values × (sieve_cells site.now ≤ room))) }
 {
     let cat = site.cat();
     cat.laws();

@@ -1,14 +1,14 @@
 -- Groups that are filled one member after another.
-use Rattle.std.proofs.Common.{◌≡◌, ℕ, zero, suc, ◌+◌, ◌*◌, ◌<◌, ◌≤◌, Bool, true, false, cond, inl, inr, List, [], ◌∷◌, ◌++◌, length, get_or, set, map, take, replicate, eqb, ltb, refl, sym, ap, subst, ◌∙◌, arith}
-use Rattle.std.specs.List.{slice_range, range_with_len, sum_by}
+use Rattle.std.proofs.Common.{◌≡◌, ℕ, zero, suc, ◌+◌, ◌*◌, ◌<◌, ◌≤◌, cond, inl, inr, List, [], ◌∷◌, ◌++◌, length, get_or, set, map, take, replicate, eqb, refl, sym, ap, subst, ◌∙◌, arith}
+use Rattle.std.specs.List.{sum_by}
 use Rattle.std.proofs.Math.Nat.{mul-le-mul_right}
 use Rattle.std.proofs.lemmas.Bool.{cases_lt, cases_eq, eq-eqb, ne_eqb, lt-ltb, le-ltb}
-use Rattle.std.proofs.lemmas.List.{same_lists, get_or_default, get_or-replicate, length-replicate, length-set, get_or-set_same, get_or-set_other, take_more, take_all, length-take-le, get_or_past, length-map}
+use Rattle.std.proofs.lemmas.List.{same_lists, get_or_default, get_or-replicate, length-replicate, length-set, get_or-set_same, get_or-set_other, take_more, take_all, get_or_past}
 use Rattle.std.proofs.lemmas.List.Sums.{sum_by-take-le}
 use Rattle.std.proofs.lemmas.List.FromFn.{length-map-range_with_len, get_or-map-range_with_len}
 use Rattle.functor_store.specs.Store.{into, cost_from, push_at}
 use Rattle.sealed_functors.specs.declared.rows.ElementRows.{ElementRows}
-use Rattle.sealed_functors.specs.Rows.{part, parts, element_rows, restriction_rows, rows_at, AreShaped, group_up_to, up_to}
+use Rattle.sealed_functors.specs.Rows.{part, parts, rows_at, group_up_to, up_to}
 
 pub length-parts : (w n : ℕ) (xs : List ℕ) → length (parts w n xs) ≡ n
 unfolding parts

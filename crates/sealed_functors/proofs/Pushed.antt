@@ -1,13 +1,13 @@
 -- The building functor while its elements and their restrictions are pushed.
-use Rattle.std.proofs.Common.{◌≡◌, ℕ, zero, suc, ◌+◌, ◌*◌, ◌<◌, ◌≤◌, inl, inr, List, [], ◌∷◌, ◌++◌, length, get_or, map, take, replicate, Option, Some, None, refl, sym, ap, subst, ◌∙◌, arith}
+use Rattle.std.proofs.Common.{◌≡◌, ℕ, ◌+◌, ◌<◌, ◌≤◌, inl, inr, List, [], ◌∷◌, ◌++◌, length, get_or, map, replicate, Option, Some, None, refl, sym, ap, ◌∙◌, arith}
 use Rattle.std.proofs.lemmas.Bool.{cases_lt}
 use Rattle.std.proofs.lemmas.List.{get_or-replicate, length-replicate, length-take-le, get_or_past, length-map}
 use Rattle.topos_model.specs.declared.ty.Ty.{Ty}
-use Rattle.functor_store.specs.Store.{Functor, Store, cells, into, cost, cost_from, cost_built, cost_sealed, bare, push_at, size_at, with_row, with_restrictions, sealed_with, IsNext, IsFirstOpen, IsWhole, IfBuilding}
+use Rattle.functor_store.specs.Store.{Functor, Store, cells, into, cost, cost_from, cost_built, bare, push_at, size_at, with_row, with_restrictions, sealed_with, IsNext, IsFirstOpen, IsWhole, IfBuilding}
 use Rattle.functor_store.proofs.Held.{cost_push}
 use Rattle.sealed_functors.specs.declared.rows.ElementRows.{ElementRows}
-use Rattle.sealed_functors.specs.Rows.{part, parts, element_rows, restriction_rows, rows_at, functor_from, AreShaped, up_to, with_all_rows, with_all_restrictions, IsBare}
-use Rattle.sealed_functors.proofs.Groups.{length-parts, part_at, part_within, mapped_at, length-up_to, before, here, after, up_to_none, up_to_more, up_to_next, up_to_all, up_to_cost}
+use Rattle.sealed_functors.specs.Rows.{element_rows, restriction_rows, functor_from, up_to, with_all_rows, with_all_restrictions, IsBare}
+use Rattle.sealed_functors.proofs.Groups.{length-parts, mapped_at, length-up_to, before, here, after, up_to_none, up_to_more, up_to_cost}
 
 pub bare_is : (key : Ty) (objects : ℕ) → IsBare objects (bare key objects)
 unfolding bare

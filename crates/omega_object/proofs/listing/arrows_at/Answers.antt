@@ -1,6 +1,6 @@
-use Rattle.std.proofs.Common.{◌≡◌, ◌+◌, ◌<◌, ◌≤◌, ℕ, Bool, List, [], length, get_or, drop, sym, ap, ◌∙◌, arith}
+use Rattle.std.proofs.Common.{◌+◌, ◌<◌, length, drop, sym, ap, ◌∙◌, arith}
 use Rattle.finite_lists.proofs.Lists.{In_at}
-use Rattle.fin_category.specs.Masks.{added, all_added}
+use Rattle.fin_category.specs.Masks.{all_added}
 use Rattle.fin_category.specs.ArrowSets.{arrows_in}
 use Rattle.closed_sets.specs.Closed.{chosen}
 use Rattle.omega_object.proofs.ChosenArrows.{chosen_more, chosen_skipped, chosen_end}

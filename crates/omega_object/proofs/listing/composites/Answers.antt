@@ -1,4 +1,4 @@
-use Rattle.std.proofs.Common.{◌≡◌, ℕ, List, [], ◌∷◌, inr, map, refl, sym, ap, subst, ◌∙◌}
+use Rattle.std.proofs.Common.{inr, map, sym, ap, subst, ◌∙◌}
 use Rattle.finite_lists.specs.Members.{In}
 use Rattle.topos_model.specs.categories.Category.{compose}
 use Rattle.fin_category.specs.Masks.{added, all_added}

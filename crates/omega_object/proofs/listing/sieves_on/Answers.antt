@@ -1,4 +1,4 @@
-use Rattle.std.proofs.Common.{◌≡◌, ◌<◌, ◌≤◌, ℕ, Bool, List, [], length, get_or, map, take, sym, ap, subst, ◌∙◌, arith}
+use Rattle.std.proofs.Common.{◌≡◌, ◌<◌, ◌≤◌, ℕ, Bool, List, [], length, map, sym, ap, subst, ◌∙◌, arith}
 use Rattle.std.proofs.lemmas.List.{length-map, take_all}
 use Rattle.finite_lists.specs.Members.{In}
 use Rattle.finite_lists.proofs.Lists.{In_at, map_same}
@@ -75,8 +75,7 @@ returns c =
     c.loop-set.invariant ∙ ap (map (made c.arrows_into-arrows.result.now)) (take_all c.loop-set.set-index items (omega (arith, c.loop-set-test.false)) ∙ sets) ∙ ap (λ xs. map (made xs) lists) arrows in
     let same : map (made (into k c.args.c)) lists ≡ map (chosen (into k c.args.c)) lists =
     map_same (made (into k c.args.c)) (chosen (into k c.args.c)) lists (λ a i. chosen_all (into k c.args.c) a (Rises-into k c.args.c) (λ f m. let low = (In-into_from k c.args.c f m).0 in omega (arith, low, few))) in
-    let within = listing.1 in
-    (
+    let within = listing.1 in (
       rows ∙ same ∙ listed_are s laws top c.args.c B C c.in_ok-passes.ensures.below c.in_ok-passes.ensures.covers,
       omega (arith, within, sym (length-map c.loop-set.rows arrows_in) ∙ ap length rows ∙ length-map lists (made (into k c.args.c))),
     )

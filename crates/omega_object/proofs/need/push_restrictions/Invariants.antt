@@ -1,5 +1,5 @@
 use Rattle.std.proofs.Common.{◌≡◌, ◌<◌, ◌+◌, ℕ, length, get_or}
-use Rattle.topos_model.specs.categories.Category.{into, dom, pull}
+use Rattle.topos_model.specs.categories.Category.{dom, pull}
 use Rattle.omega_object.specs.TruthValues.{IsNumber, sieve_at}
 use Rattle.omega_object.proofs.need.push_restrictions.Given as goal
 

@@ -1,20 +1,13 @@
-use Rattle.std.proofs.Common.{◌≡◌, ◌<◌, ◌≤◌, ◌+◌, ◌*◌, ℕ, suc, List, [], inl, inr, length, get_or, map, sym, ap, subst, ◌∙◌, arith}
+use Rattle.std.proofs.Common.{◌≡◌, ◌≤◌, ◌+◌, ◌*◌, suc, inl, inr, length, get_or, sym, ap, subst, ◌∙◌, arith}
 use Rattle.std.proofs.Math.Nat.{mul-le-mul_right}
 use Rattle.std.proofs.lemmas.Bool.{cases_lt}
 use Rattle.std.proofs.lemmas.List.{length-map}
-use Rattle.topos_model.specs.categories.Category.{Category, into, dom, pull}
+use Rattle.topos_model.specs.categories.Category.{into, dom, pull}
 use Rattle.fin_category.specs.ArrowSets.{arrows_in}
 use Rattle.omega_object.specs.TruthValues.{closed_sieves, sieve_at, IsNumber}
 use Rattle.omega_object.specs.Tables.{rows_at}
 use Rattle.omega_object.proofs.SealedSieves.{few_sieves}
 use Rattle.omega_object.proofs.need.sieve_rows.Goals as goal
-
-pub count-count-requires-clause-few : goal.count-count-requires-clause-few
-count-count-requires-clause-few c =
-    let s = c.args.site.now in
-    let o = c.requires.omega in
-    let n : length (rows_at c.args.omega.now c.args.c) ≡ length (closed_sieves s c.args.c) = sym (length-map (rows_at c.args.omega.now c.args.c) arrows_in) ∙ ap length (o.sieves c.args.c c.requires.object) in
-    omega (arith, n, few_sieves s c.args.c c.requires.object, c.requires.few)
 
 pub loop-k-preserved : goal.loop-k-preserved
 loop-k-preserved c =

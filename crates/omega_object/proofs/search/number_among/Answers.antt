@@ -1,8 +1,7 @@
-use Rattle.std.proofs.Common.{◌≡◌, ℕ, ◌+◌, ◌-◌, ◌/◌, ◌<◌, ◌≤◌, true, false, [], length, map, get_or, refl, sym, ap, subst, ◌∙◌, arith}
+use Rattle.std.proofs.Common.{◌+◌, ◌-◌, ◌/◌, ◌<◌, [], length, map, sym, subst, arith}
 use Rattle.std.proofs.lemmas.List.{length-map}
 use Rattle.fin_category.specs.Masks.{IsFirstDifference}
 use Rattle.fin_category.specs.ArrowSets.{arrows_in}
-use Rattle.omega_object.specs.TruthValues.{Precedes}
 use Rattle.omega_object.proofs.Precedence.{mapped_at, stands, stands_later, stands_before}
 use Rattle.omega_object.proofs.search.number_among.Goals as goal
 

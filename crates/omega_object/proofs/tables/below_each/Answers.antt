@@ -1,6 +1,6 @@
 use Rattle.std.proofs.Common.{◌≡◌, ℕ, List, ap, subst, ◌∙◌}
 use Rattle.finite_lists.specs.Members.{In}
-use Rattle.topos_model.specs.categories.Category.{into, dom, compose}
+use Rattle.topos_model.specs.categories.Category.{into, dom}
 use Rattle.topos_model.proofs.ArrowsInto.{In-into_from}
 use Rattle.fin_category.specs.ArrowSets.{arrows_in}
 use Rattle.omega_object.specs.Tables.{composites_of}

@@ -1,6 +1,6 @@
 use Rattle.std.proofs.Common.{◌≡◌, ℕ, List, sym, ap, subst, ◌∙◌}
 use Rattle.finite_lists.specs.Members.{In}
-use Rattle.topos_model.specs.categories.Category.{Category, dom, compose}
+use Rattle.topos_model.specs.categories.Category.{Category, dom}
 use Rattle.topos_model.specs.topologies.Cover.{Site}
 use Rattle.topos_model.specs.Laws.{IsCategory, IsInto}
 use Rattle.topos_model.specs.topologies.LeastCovers.{least}

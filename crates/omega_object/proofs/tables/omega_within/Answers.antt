@@ -1,6 +1,9 @@
-use Rattle.std.proofs.Common.{◌≡◌, ◌<◌, ◌≤◌, ℕ, List, [], length, get_or, map, Option, sym, ap, subst, ◌∙◌, arith}
+use Rattle.std.proofs.Common.{inl, inr, ◌≡◌, ◌<◌, ◌≤◌, ℕ, List, [], length, get_or, map, Option, sym, ap, subst, ◌∙◌, arith}
 use Rattle.std.specs.List.{range_with_len}
 use Rattle.std.specs.Prelude.{MatchOption}
+use Rattle.std.proofs.lemmas.Bool.{cases_lt}
+use Rattle.std.proofs.lemmas.List.{length-map, get_or_past}
+use Rattle.omega_object.proofs.SealedSieves.{few_sieves}
 use Rattle.topos_model.specs.categories.Category.{Category, into, dom}
 use Rattle.topos_model.specs.topologies.Cover.{Site}
 use Rattle.topos_model.specs.Laws.{IsCategory, IsTopology}
@@ -38,3 +41,21 @@ returns-in_ok-covers-in-Some c =
       },
       listed.1,
     )
+
+pub invariant_of-result : goal.invariant_of-result
+invariant_of-result c =
+    let s = c.args.site.now in
+    let k = s.category in
+    let all = c.in-Some.sieves in
+    let listed = subst (λ (o : Option (List (List ArrowMask))). MatchOption o (c.args.room < sieve_cells s) (λ all. (map (map arrows_in) all ≡ map (closed_sieves s) (range_with_len 0 k.objects)) × (sieve_cells s ≤ c.args.room))) c.in-Some.is c.in_ok-sieves_within.ensures in
+    let objects : length all ≡ k.objects = numbered_length (map arrows_in) (closed_sieves s) all k.objects listed.0 in
+    let within = listed.1 in
+    record {
+      few = λ x.
+          elim (cases_lt x k.objects) [
+            | inl low ↦
+                let n : length (get_or all x []) ≡ length (closed_sieves s x) = sym (length-map (get_or all x []) arrows_in) ∙ ap length (numbered_at (map arrows_in) (closed_sieves s) all k.objects x [] listed.0 low) in
+                omega (arith, n, few_sieves s x low, within, c.requires)
+            | inr high ↦ omega (arith, ap length (get_or_past all x [] (omega (arith, high, objects))))
+          ];
+    }

@@ -1,4 +1,4 @@
-use Rattle.std.proofs.Common.{◌≡◌, ◌<◌, ◌≤◌, ◌+◌, ◌-◌, ◌*◌, ◌/◌, ℕ, List, [], length, map, Option, sym, ap, subst, ◌∙◌, arith}
+use Rattle.std.proofs.Common.{◌≡◌, ◌<◌, ◌≤◌, ◌+◌, ◌*◌, ◌/◌, List, length, map, Option, sym, ap, subst, ◌∙◌, arith}
 use Rattle.std.specs.List.{range_with_len}
 use Rattle.std.specs.Prelude.{MatchOption}
 use Rattle.std.proofs.lemmas.List.{length-map}
@@ -6,7 +6,6 @@ use Rattle.topos_model.specs.categories.Category.{Category, into}
 use Rattle.fin_category.specs.declared.mask.ArrowMask.{ArrowMask}
 use Rattle.fin_category.specs.ArrowSets.{arrows_in}
 use Rattle.omega_object.specs.TruthValues.{closed_sieves}
-use Rattle.omega_object.specs.Tables.{sieve_cells}
 use Rattle.omega_object.proofs.Precedence.{mapped_pushed}
 use Rattle.omega_object.proofs.CellSums.{cells_below, cells_none, cells_more, cells_all, cells_within, over_room, within_room}
 use Rattle.omega_object.proofs.tables.sieves_within.Goals as goal
@@ -43,8 +42,7 @@ loop-c-preserved c =
 pub returns : goal.returns
 returns c =
     let s = c.args.site.now in
-    let n : c.loop-c.c ≡ s.category.objects = omega (arith, c.loop-c-test.false, c.loop-c.auto.c-end, c.objects-c-end.ensures.count, ap (λ (k : Category). k.objects) c.cat-cat.ensures) in
-    (
+    let n : c.loop-c.c ≡ s.category.objects = omega (arith, c.loop-c-test.false, c.loop-c.auto.c-end, c.objects-c-end.ensures.count, ap (λ (k : Category). k.objects) c.cat-cat.ensures) in (
       c.loop-c.invariant.made ∙ ap (λ m. map (closed_sieves s) (range_with_len 0 m)) n,
       omega (arith, c.loop-c.invariant.spent, ap (cells_below s) n, cells_all s),
     )

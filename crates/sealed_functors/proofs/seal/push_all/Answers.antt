@@ -1,5 +1,5 @@
 use Rattle.std.proofs.Common.{◌≡◌, ℕ, List, [], map, replicate, sym, subst}
-use Rattle.functor_store.specs.Store.{Store, Functor, IfBuilding}
+use Rattle.functor_store.specs.Store.{Store, IfBuilding}
 use Rattle.sealed_functors.specs.Rows.{element_rows}
 use Rattle.sealed_functors.proofs.Pushed.{pushed_after}
 use Rattle.sealed_functors.proofs.seal.push_all.Goals as goal

@@ -1,8 +1,8 @@
-use Rattle.std.proofs.Common.{◌≡◌, ℕ, ◌+◌, ◌*◌, ◌<◌, ◌≤◌, List, [], length, get_or, map, sym, ap, subst, ◌∙◌, arith}
+use Rattle.std.proofs.Common.{◌≡◌, ℕ, ◌*◌, ◌<◌, List, [], length, get_or, map, sym, ap, subst, ◌∙◌, arith}
 use Rattle.std.proofs.lemmas.List.{length-map, get_or_default}
-use Rattle.functor_store.specs.Store.{Store, Functor, with_restrictions, IfBuilding, IsFirstOpen}
+use Rattle.functor_store.specs.Store.{Store, with_restrictions, IfBuilding, IsFirstOpen}
 use Rattle.sealed_functors.specs.declared.rows.ElementRows.{ElementRows}
-use Rattle.sealed_functors.specs.Rows.{part, parts, restriction_rows, rows_at, up_to, with_all_restrictions}
+use Rattle.sealed_functors.specs.Rows.{part, restriction_rows, rows_at, with_all_restrictions}
 use Rattle.sealed_functors.proofs.Groups.{length-parts, part_at, part_within, mapped_at, up_to_next, up_to_all}
 use Rattle.sealed_functors.proofs.Pushed.{restrictions_begin, restrictions_first, restrictions_more, restrictions_building}
 use Rattle.sealed_functors.proofs.seal.push_all_restrictions.Goals as goal

@@ -1,10 +1,10 @@
-use Rattle.std.proofs.Common.{◌≡◌, ℕ, ◌+◌, ◌*◌, ◌<◌, ◌≤◌, List, [], length, get_or, map, Result, Ok, Err, refl, sym, ap, subst, ◌∙◌, arith}
+use Rattle.std.proofs.Common.{◌≡◌, ℕ, ◌+◌, ◌*◌, ◌<◌, List, [], length, get_or, map, Err, sym, ap, subst, ◌∙◌, arith}
 use Rattle.std.proofs.lemmas.List.{length-map, get_or_default}
 use Rattle.functor_store.specs.declared.fault.StoreFault.{StoreFault}
 use Rattle.functor_store.specs.declared.fault.StoreFault.TheVariants.{Over, NoMemory}
-use Rattle.functor_store.specs.Store.{Store, Functor, cells, into, with_row, IfBuilding, IsNext, IsOverWhere}
+use Rattle.functor_store.specs.Store.{Store, cells, into, with_row, IfBuilding, IsNext, IsOverWhere}
 use Rattle.sealed_functors.specs.declared.rows.ElementRows.{ElementRows}
-use Rattle.sealed_functors.specs.Rows.{part, parts, element_rows, rows_at, up_to, with_all_rows, IsOverExactly}
+use Rattle.sealed_functors.specs.Rows.{part, element_rows, rows_at, up_to, with_all_rows, IsOverExactly}
 use Rattle.sealed_functors.proofs.Groups.{length-parts, part_at, part_within, mapped_at, up_to_next, up_to_all}
 use Rattle.sealed_functors.proofs.Pushed.{rows_begin, rows_next, rows_more, rows_cells, rows_building}
 use Rattle.sealed_functors.proofs.seal.push_rows.Goals as goal

@@ -1,4 +1,4 @@
-use Rattle.std.proofs.Common.{◌≡◌, ℕ, ◌+◌, ◌<◌, ◌++◌, ◌∷◌, List, [], length, map, None, Some, Result, Ok, Err, Option, sym, ap, subst, ◌∙◌, arith}
+use Rattle.std.proofs.Common.{◌≡◌, ℕ, ◌+◌, ◌++◌, ◌∷◌, List, [], length, map, None, Some, Err, Option, sym, ap, subst, ◌∙◌, arith}
 use Rattle.functor_store.specs.declared.fault.StoreFault.{StoreFault}
 use Rattle.functor_store.specs.declared.fault.StoreFault.TheVariants.{Over, NoMemory}
 use Rattle.functor_store.specs.Store.{Store, Functor, cells, cost, bare, sealed_with, IfBuilding, IsWhole}

@@ -1,7 +1,6 @@
-use Rattle.std.proofs.Common.{◌≡◌, ◌<◌, ℕ, [], length, filter}
+use Rattle.std.proofs.Common.{◌≡◌, ℕ, [], filter}
 use Rattle.finite_lists.specs.Members.{In}
 use Rattle.topos_model.specs.topologies.Cover.{contains}
-use Rattle.topos_model.specs.topologies.TopologyFaults.{intersection}
 use Rattle.fin_category.specs.Masks.{all_added}
 use Rattle.fin_category.specs.ArrowSets.{arrows_in, left_in}
 use Rattle.omega_object.specs.Tables.{mask_at}

@@ -1,9 +1,9 @@
-use Rattle.std.proofs.Common.{◌≡◌, ℕ, ◌<◌, Bool, inl, inr, List, [], ◌∷◌, length, get_or, filter, refl, sym, ap, subst, ◌∙◌}
+use Rattle.std.proofs.Common.{◌≡◌, ℕ, Bool, inl, inr, [], filter, refl, sym, ap, subst, ◌∙◌}
 use Rattle.std.proofs.lemmas.Option.{get_or_from_slice_get}
 use Rattle.finite_lists.specs.Members.{In}
 use Rattle.topos_model.specs.topologies.Cover.{contains}
 use Rattle.topos_model.specs.topologies.TopologyFaults.{intersection}
-use Rattle.fin_category.specs.Masks.{added, all_added}
+use Rattle.fin_category.specs.Masks.{all_added}
 use Rattle.fin_category.specs.ArrowSets.{arrows_in, left_in}
 use Rattle.fin_category.proofs.ArrowLists.{In-members_below}
 use Rattle.omega_object.specs.Tables.{mask_at}

@@ -1,4 +1,4 @@
-use Rattle.std.proofs.Common.{◌≡◌, ◌<◌, ℕ, [], length, filter}
+use Rattle.std.proofs.Common.{◌≡◌, ℕ, [], filter}
 use Rattle.finite_lists.specs.Members.{In}
 use Rattle.topos_model.specs.topologies.Cover.{contains}
 use Rattle.topos_model.specs.topologies.TopologyFaults.{intersection}

@@ -1,18 +1,14 @@
-use Rattle.std.proofs.Common.{◌≡◌, ℕ, ◌<◌, List, [], length, get_or, map, filter, sym, ap, subst, ◌∙◌, arith}
-use Rattle.std.proofs.lemmas.Option.{get_or_from_slice_get}
-use Rattle.std.proofs.lemmas.List.{length-map}
+use Rattle.std.proofs.Common.{◌≡◌, ◌<◌, [], filter, sym, ap, subst, ◌∙◌, arith}
 use Rattle.finite_lists.specs.Members.{In}
-use Rattle.topos_model.specs.categories.Category.{into}
-use Rattle.topos_model.specs.topologies.Cover.{Site, contains}
+use Rattle.topos_model.specs.topologies.Cover.{contains}
 use Rattle.topos_model.specs.topologies.LeastCovers.{closure}
-use Rattle.topos_model.specs.topologies.TopologyFaults.{intersection}
-use Rattle.fin_category.specs.Masks.{all_added, union}
+use Rattle.fin_category.specs.Masks.{all_added}
 use Rattle.fin_category.specs.ArrowSets.{arrows_in}
 use Rattle.sieve_table.proofs.SieveMembers.{empty-sieve}
-use Rattle.omega_object.specs.TruthValues.{closed_sieves, sieve_at, implication, IsNumber}
-use Rattle.omega_object.specs.Tables.{IsOmegaOn, mask_at, rows_at}
-use Rattle.omega_object.proofs.ClosedSieves.{rising_closed, closed_sieve, meet_in, implication_in, closure_in, maximal_in, implication_sieve}
-use Rattle.omega_object.proofs.Operations.{sieve_is, sieve_in, joined_sieve, closed_is, implied_is, number_is}
+use Rattle.omega_object.specs.TruthValues.{closed_sieves}
+use Rattle.omega_object.specs.Tables.{mask_at}
+use Rattle.omega_object.proofs.ClosedSieves.{closure_in}
+use Rattle.omega_object.proofs.Operations.{closed_is, number_is}
 use Rattle.omega_object.proofs.omega.Omega.least.Goals as goal
 
 pub returns : goal.returns

@@ -1,13 +1,13 @@
-use Rattle.std.proofs.Common.{◌≡◌, ◌<◌, ◌≤◌, ◌+◌, ◌++◌, ◌∷◌, ℕ, List, [], inl, inr, length, map, Option, None, Some, Result, Ok, Err, refl, sym, ap, subst, ◌∙◌, arith}
+use Rattle.std.proofs.Common.{◌≡◌, ◌<◌, ◌≤◌, ℕ, List, inr, length, Option, None, Err, refl, sym, ap, subst, ◌∙◌, arith}
 use Rattle.std.specs.Prelude.{MatchOption}
-use Rattle.topos_model.specs.declared.ty.Ty.{Ty, Omega}
+use Rattle.topos_model.specs.declared.ty.Ty.{Omega}
 use Rattle.topos_model.specs.topologies.Cover.{Site}
 use Rattle.topos_model.specs.types.Types.{Presheaf}
 use Rattle.topos_model.specs.statements.Cells.{cells_of}
 use Rattle.functor_store.specs.declared.fault.StoreFault.{StoreFault}
 use Rattle.functor_store.specs.declared.fault.StoreFault.TheVariants.{Over, NoMemory}
-use Rattle.functor_store.specs.Store.{Functor, Store, cells, cost, cost_sealed, cost_built, functor_at, IsFreeKey}
-use Rattle.functor_store.specs.Faithful.{Holds, HasElements, IsFaithful}
+use Rattle.functor_store.specs.Store.{Store, cells, cost, functor_at, IsFreeKey}
+use Rattle.functor_store.specs.Faithful.{HasElements, IsFaithful}
 use Rattle.functor_store.proofs.Costs.{cost_is}
 use Rattle.sealed_functors.specs.declared.rows.ElementRows.{ElementRows}
 use Rattle.sealed_functors.specs.Rows.{functor_from, rows_at, IsOverExactly}
@@ -32,7 +32,7 @@ unreachable-requires c =
     let s = c.args.site.now in
     let store = c.args.store.now in
     let found = subst (λ (o : Option ℕ). MatchOption o (IsFreeKey store.sealed Omega) (λ id. (id < length store.sealed) × ((functor_at store.sealed id).key ≡ Omega))) c.in-Some.is c.find.ensures.place in
-    let over : c.cells.result < sieve_cells s = subst (Made s c.cells.result) c.in-None-2.is c.in_ok-omega-in-Some.ensures in
+    let over : c.cells.result < sieve_cells s = subst (Made s c.cells.result) c.in-None-2.is c.in_ok-values-in-Some.ensures in
     omega (arith, over, c.cells.ensures.cells, held_cells s c.requires.faithful.0 store _ c.requires.faithful.1 found.0 found.1)
 
 pub seal_rows-requires-clause-few : goal.seal_rows-requires-clause-few
