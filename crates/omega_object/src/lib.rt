@@ -10,3 +10,6 @@ mod tables;
 
 pub use omega::Omega;
 pub use store::empty_store;
+
+#[cfg(test)]
+mod tests;

@@ -6,40 +6,21 @@ use Rattle.finite_lists.specs.Members.{In, Distinct}
 use Rattle.finite_lists.specs.Sublists.{sublists}
 use Rattle.topos_model.specs.categories.Category.{Category, has, into, cod, dom, compose, is_sieve, sieves, pull}
 use Rattle.topos_model.specs.Laws.{IsCategory, IsInto}
+use Rattle.topos_model.proofs.ArrowsInto.{In-into, In-into_from}
+use Rattle.fin_category.proofs.ArrowLists.{has-In, In-has}
+use Rattle.sieve_table.proofs.SieveMembers.{Distinct-into, In-pull, In-pull_from}
 use Rattle.finite_lists.proofs.Lists.{same_tests, In-filter, In-filter_from, all_each, each_all, any_some, some_any, filter_same, filter_sublist, sublist_within, sublist_kept}
 use Rattle.finite_lists.proofs.DistinctLists.{Distinct-filter, Distinct-range, In-range, In-range_from}
 
 pub has_In : (f : ℕ) (xs : List ℕ) → has f xs ≡ true → In xs f
-has_In f xs h = let m = any_some (eqb f) xs h in subst (λ x. In xs x) (sym (eqb-true f m.0 m.2)) m.1
+has_In f xs h = In-has xs f h
 
 pub In_has : (f : ℕ) (xs : List ℕ) → In xs f → has f xs ≡ true
-In_has f xs h = some_any (eqb f) xs f h (eq-eqb f f refl)
+In_has f xs h = has-In xs f h
 
 module _ (k : Category) where
-  pub into_In : (c f : ℕ) → IsInto k c f → In (into k c) f
-  unfolding into
-  into_In c f i = In-filter _ _ f (In-range 0 (length k.ends) f (omega arith) (omega (arith, i.0))) (eq-eqb _ _ i.1)
-
-  pub In_into : (c f : ℕ) → In (into k c) f → IsInto k c f
-  unfolding into
-  In_into c f h =
-      let m = In-filter_from (λ f. eqb (cod k f) c) (range_with_len 0 (length k.ends)) f h in
-      let r = In-range_from 0 (length k.ends) f m.0 in
-      (omega arith, eqb-true _ _ m.1)
-
-  pub Distinct-into : (c : ℕ) → Distinct (into k c)
-  unfolding into
-  Distinct-into c = Distinct-filter _ _ (Distinct-range 0 (length k.ends))
-
   pub pull_In : (c f g : ℕ) (S : List ℕ) → IsInto k (dom k f) g → In S (compose k f g) → In (pull k f S) g
-  unfolding pull
-  pull_In c f g S j h = In-filter _ _ g (into_In (dom k f) g j) (In_has _ S h)
-
-  pub In_pull : (f g : ℕ) (S : List ℕ) → In (pull k f S) g → IsInto k (dom k f) g × In S (compose k f g)
-  unfolding pull
-  In_pull f g S h =
-      let m = In-filter_from (λ g. has (compose k f g) S) (into k (dom k f)) g h in
-      (In_into (dom k f) g m.0, has_In _ S m.1)
+  pull_In c f g S j h = In-pull k f g S j h
 
   pub pull_sublist : (f : ℕ) (S : List ℕ) → In (sublists (into k (dom k f))) (pull k f S)
   unfolding pull
@@ -49,8 +30,8 @@ module _ (k : Category) where
   pub same_arrows : (c : ℕ) (S R : List ℕ) → In (sublists (into k c)) S → In (sublists (into k c)) R →
       ((f : ℕ) → In S f → In R f) → ((f : ℕ) → In R f → In S f) → S ≡ R
   same_arrows c S R m n to back =
-      sym (sublist_kept (λ f. has f S) (into k c) S (Distinct-into c) m (λ f i. has_In f S) (λ f. In_has f S))
-      ∙ sublist_kept (λ f. has f S) (into k c) R (Distinct-into c) n (λ f i h. to f (has_In f S h)) (λ f h. In_has f S (back f h))
+      sym (sublist_kept (λ f. has f S) (into k c) S (Distinct-into k c) m (λ f i. has_In f S) (λ f. In_has f S))
+      ∙ sublist_kept (λ f. has f S) (into k c) R (Distinct-into k c) n (λ f i h. to f (has_In f S h)) (λ f h. In_has f S (back f h))
 
   -- a sieve on c
   pub record IsSieve (c : ℕ) (S : List ℕ) : Type 0 where
@@ -58,12 +39,12 @@ module _ (k : Category) where
     pub downward : (f g : ℕ) → In S f → IsInto k (dom k f) g → In S (compose k f g)
 
   pub sieve_arrow : (c f : ℕ) (S : List ℕ) → In (sublists (into k c)) S → In S f → IsInto k c f
-  sieve_arrow c f S m h = In_into c f (sublist_within (into k c) S f m h)
+  sieve_arrow c f S m h = In-into_from k c f (sublist_within (into k c) S f m h)
 
   pub sieves_In : (c : ℕ) (S : List ℕ) → IsSieve c S → In (sieves k c) S
   unfolding sieves is_sieve
   sieves_In c S h =
-      In-filter _ _ S h.member (each_all _ S (λ f i. each_all _ (into k (dom k f)) (λ g j. In_has _ S (h.downward f g i (In_into (dom k f) g j)))))
+      In-filter _ _ S h.member (each_all _ S (λ f i. each_all _ (into k (dom k f)) (λ g j. In_has _ S (h.downward f g i (In-into_from k (dom k f) g j)))))
 
   pub In_sieves : (c : ℕ) (S : List ℕ) → In (sieves k c) S → IsSieve c S
   unfolding sieves is_sieve
@@ -71,7 +52,7 @@ module _ (k : Category) where
       let m = In-filter_from (is_sieve k) (sublists (into k c)) S h in
       record {
         member = m.0;
-        downward = λ f g i j. has_In _ S (all_each _ (into k (dom k f)) g (all_each _ S f m.1 i) (into_In (dom k f) g j));
+        downward = λ f g i j. has_In _ S (all_each _ (into k (dom k f)) g (all_each _ S f m.1 i) (In-into k (dom k f) g j));
       }
 
   module _ (laws : IsCategory k) where
@@ -80,7 +61,7 @@ module _ (k : Category) where
     pull_sieve c f S i h = record {
       member = filter_sublist _ (into k (dom k f));
       downward = λ g g' j j'.
-          let p = In_pull f g S j in
+          let p = In-pull_from k f g S j in
           let q = laws.composite (dom k f) g g' p.0 j' in
           let j'' : IsInto k (dom k (compose k f g)) g' = subst (λ d. IsInto k d g') (sym (laws.composite c f g i p.0).1) j' in
           pull_In c f (compose k g g') S q.0 (subst (λ x. In S x) (sym (laws.associative c f g g' i p.0 j')) (h.downward (compose k f g) g' p.1 j''));
@@ -91,16 +72,16 @@ module _ (k : Category) where
     pull_identity c S low m =
         let at : dom k c ≡ c = (laws.identity c low).1 in
         ap (λ d. filter (λ g. has (compose k c g) S) (into k d)) at
-        ∙ filter_same _ (λ g. has g S) (into k c) (λ g j. ap (λ x. has x S) (laws.left_neutral c g (In_into c g j)))
-        ∙ sublist_kept (λ g. has g S) (into k c) S (Distinct-into c) m (λ g j. has_In g S) (λ g. In_has g S)
+        ∙ filter_same _ (λ g. has g S) (into k c) (λ g j. ap (λ x. has x S) (laws.left_neutral c g (In-into_from k c g j)))
+        ∙ sublist_kept (λ g. has g S) (into k c) S (Distinct-into k c) m (λ g j. has_In g S) (λ g. In_has g S)
 
     pub pull_composite : (c f g : ℕ) (S : List ℕ) → IsInto k c f → IsInto k (dom k f) g → pull k g (pull k f S) ≡ pull k (compose k f g) S
     unfolding pull
     pull_composite c f g S i j =
         filter_same _ _ (into k (dom k g)) (λ h l.
-        let l' : IsInto k (dom k g) h = In_into (dom k g) h l in
+        let l' : IsInto k (dom k g) h = In-into_from k (dom k g) h l in
         let e : compose k f (compose k g h) ≡ compose k (compose k f g) h = laws.associative c f g h i j l' in
         same_tests _ _
-        (λ t. subst (λ x. has x S ≡ true) e (In_has _ S (In_pull f (compose k g h) S (has_In _ (pull k f S) t)).1))
+        (λ t. subst (λ x. has x S ≡ true) e (In_has _ S (In-pull_from k f (compose k g h) S (has_In _ (pull k f S) t)).1))
         (λ t. In_has _ _ (pull_In c f (compose k g h) S (laws.composite (dom k f) g h j l').0 (has_In _ S (subst (λ x. has x S ≡ true) (sym e) t)))))
         ∙ ap (λ d. filter (λ h. has (compose k (compose k f g) h) S) (into k d)) (sym (laws.composite c f g i j).1)

@@ -14,7 +14,7 @@ use Rattle.type_laws.proofs.Selectors.{assigns_of-Fn, Fn-equal}
 use Rattle.type_laws.proofs.Same.{same_equal, same_self}
 use Rattle.finite_lists.proofs.Lists.{In-filter, In-filter_from, In-map, In-map_from, all_each, each_all, map_same}
 use Rattle.finite_lists.proofs.DistinctLists.{Distinct-filter, Distinct-map}
-use Rattle.type_laws.proofs.Arrows.{into_In, In_into}
+use Rattle.topos_model.proofs.ArrowsInto.{In-into, In-into_from}
 use Rattle.type_laws.proofs.Places.{IsPresheaf, moved, under, Distinct-places, moved_place, under_place, under_source, moved_under, under_under, under_identity}
 use Rattle.type_laws.proofs.Tables.{row, tabulate, at_entry, at_tabulate, tabulate_In, at_within, assignment_table, Distinct-assignments}
 
@@ -39,7 +39,7 @@ module _ (s : Site) (values : ℕ → List Val) (restrict : ℕ → Val → Val)
       member = m;
       natural = λ e g i j.
           let listed = subst (λ x. In x (row (at_entry l) e)) (assignment_table choices (places s values c) l (Distinct-places s values c distinct) m) (In-map (row (at_entry l)) (places s values c) e i) in
-          same_equal _ _ (all_each (square l (row (at_entry l) e)) (into k (dom k e.arrow)) g (all_each _ l (row (at_entry l) e) h listed) (into_In k (dom k e.arrow) g j));
+          same_equal _ _ (all_each (square l (row (at_entry l) e)) (into k (dom k e.arrow)) g (all_each _ l (row (at_entry l) e) h listed) (In-into k (dom k e.arrow) g j));
     }
 
     natural_passes : (c : ℕ) (l : List Assign) → IsNaturalTable c l → is_natural s restrict restrict' l ≡ true
@@ -49,7 +49,7 @@ module _ (s : Site) (values : ℕ → List Val) (restrict : ℕ → Val → Val)
         let m = In-map_from (row (at_entry l)) (places s values c) a (subst (λ x. In x a) (sym (assignment_table choices (places s values c) l (Distinct-places s values c distinct) h.member)) i) in
         subst (λ a. list_all (square l a) (into k (dom k a.arrow)) ≡ true) m.2
         (each_all (square l (row (at_entry l) m.0)) (into k (dom k m.0.arrow)) (λ g j.
-        subst (λ v. same (restrict' g (at_entry l m.0)) v ≡ true) (h.natural m.0 g m.1 (In_into k (dom k m.0.arrow) g j)) (same_self _))))
+        subst (λ v. same (restrict' g (at_entry l m.0)) v ≡ true) (h.natural m.0 g m.1 (In-into_from k (dom k m.0.arrow) g j)) (same_self _))))
 
     -- the elements of the function type are exactly the natural assignments
     pub fun_In : (c : ℕ) (l : List Assign) → IsNaturalTable c l → In (fun_elements s values restrict values' restrict' c) (Fn l)

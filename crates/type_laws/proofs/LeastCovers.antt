@@ -7,7 +7,8 @@ use Rattle.topos_model.specs.categories.Category.{Category, dom, compose, pull}
 use Rattle.topos_model.specs.topologies.Cover.{Site, covers}
 use Rattle.topos_model.specs.Laws.{IsCategory, IsInto}
 use Rattle.topos_model.specs.types.Types.{places}
-use Rattle.type_laws.proofs.Arrows.{IsSieve, pull_In, In_pull, sieve_arrow, pull_sieve}
+use Rattle.sieve_table.proofs.SieveMembers.{In-pull_from}
+use Rattle.type_laws.proofs.Arrows.{IsSieve, pull_In, sieve_arrow, pull_sieve}
 use Rattle.type_laws.proofs.Places.{moved, In_places}
 use Rattle.type_laws.proofs.TruthValues.{IsClosedSieve}
 use Rattle.type_laws.proofs.Subsets.{IsClosedSubset}
@@ -48,7 +49,7 @@ module _ (s : Site) (laws : IsCategory s.category) (M : ℕ → List ℕ) (least
   pub least_closed_sieve : (c : ℕ) (S : List ℕ) → IsSieve k c S → ((h : ℕ) → IsInto k c h → ((g : ℕ) → In (M (dom k h)) g → In S (compose k h g)) → In S h) → IsClosedSieve s c S
   least_closed_sieve c S sieve each = record {
     sieve = sieve;
-    closed = λ f i r. each f i (λ g m. (In_pull k f g S (least.within (dom k f) g (pull k f S) r m)).1);
+    closed = λ f i r. each f i (λ g m. (In-pull_from k f g S (least.within (dom k f) g (pull k f S) r m)).1);
   }
 
   -- the same for closed subsets; the test of a cover is made at the least one

@@ -9,7 +9,9 @@ use Rattle.topos_model.specs.topologies.Cover.{Site, covers}
 use Rattle.topos_model.specs.Laws.{IsCategory, IsInto}
 use Rattle.topos_model.specs.types.Types.{places, in_entries}
 use Rattle.finite_lists.proofs.Lists.{same_tests, In-filter, In-filter_from, filter_same, filter_sublist, map_same}
-use Rattle.type_laws.proofs.Arrows.{has_In, In_has, into_In, In_into, In_pull}
+use Rattle.topos_model.proofs.ArrowsInto.{In-into, In-into_from}
+use Rattle.sieve_table.proofs.SieveMembers.{In-pull_from}
+use Rattle.type_laws.proofs.Arrows.{has_In, In_has}
 use Rattle.type_laws.proofs.Places.{IsPresheaf, entry, entries_In, In_entries, moved, under, places_In, moved_place, under_place}
 use Rattle.type_laws.proofs.TruthValues.{IsClosedSieve}
 use Rattle.type_laws.proofs.Subsets.{IsClosedSubset, narrowed}
@@ -31,11 +33,11 @@ module _ (s : Site) (laws : IsCategory s.category) where
       member = filter_sublist p (into k c);
       downward = λ f g m j.
           let n = In-filter_from p (into k c) f m in
-          let i = In_into k c f n.0 in
-          In-filter p (into k c) (compose k f g) (into_In k c (compose k f g) (laws.composite c f g i j).0) (kept f g i j n.1);
+          let i = In-into_from k c f n.0 in
+          In-filter p (into k c) (compose k f g) (In-into k c (compose k f g) (laws.composite c f g i j).0) (kept f g i j n.1);
     };
     closed = λ f i r.
-        In-filter p (into k c) f (into_In k c f i) (local f (pull k f (filter p (into k c))) i r (λ g n. (In-filter_from p (into k c) (compose k f g) (In_pull k f g (filter p (into k c)) n).1).1));
+        In-filter p (into k c) f (In-into k c f i) (local f (pull k f (filter p (into k c))) i r (λ g n. (In-filter_from p (into k c) (compose k f g) (In-pull_from k f g (filter p (into k c)) n).1).1));
   }
 
   pub sieve_made_along : (c f : ℕ) (p : ℕ → Bool) → IsInto k c f → pull k f (filter p (into k c)) ≡ filter (λ g. p (compose k f g)) (into k (dom k f))
@@ -44,7 +46,7 @@ module _ (s : Site) (laws : IsCategory s.category) where
       filter_same (λ g. has (compose k f g) (filter p (into k c))) (λ g. p (compose k f g)) (into k (dom k f)) (λ g j.
       same_tests _ _
       (λ h. (In-filter_from p (into k c) (compose k f g) (has_In _ _ h)).1)
-      (λ h. In_has _ _ (In-filter p (into k c) (compose k f g) (into_In k c (compose k f g) (laws.composite c f g i (In_into k (dom k f) g j)).0) h)))
+      (λ h. In_has _ _ (In-filter p (into k c) (compose k f g) (In-into k c (compose k f g) (laws.composite c f g i (In-into_from k (dom k f) g j)).0) h)))
 
   module _ (values : ℕ → List Val) (restrict : ℕ → Val → Val) (presheaf : IsPresheaf k values restrict) where
     -- the places with a property that is kept along arrows and holds where it holds on a cover

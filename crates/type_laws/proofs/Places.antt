@@ -12,7 +12,8 @@ use Rattle.topos_model.specs.types.Values.{same}
 use Rattle.type_laws.proofs.Same.{same_equal, same_self}
 use Rattle.finite_lists.proofs.Lists.{In-map, In-map_from, In-flat_map, In-flat_map_from, any_some, some_any}
 use Rattle.finite_lists.proofs.DistinctLists.{Distinct-map, Distinct-flat_map}
-use Rattle.type_laws.proofs.Arrows.{into_In, In_into, Distinct-into}
+use Rattle.topos_model.proofs.ArrowsInto.{In-into, In-into_from}
+use Rattle.sieve_table.proofs.SieveMembers.{Distinct-into}
 
 abbrev pub entry : ℕ → Val → Entry
 entry f w = record { arrow = f; val = w }
@@ -51,14 +52,14 @@ module _ (s : Site) where
 
   pub places_In : (values : ℕ → List Val) (c : ℕ) (e : Entry) → IsInto k c e.arrow → In (values (dom k e.arrow)) e.val → In (places s values c) e
   unfolding places
-  places_In values c e i h = In-flat_map _ (into k c) e.arrow e (into_In k c e.arrow i) (In-map (entry e.arrow) (values (dom k e.arrow)) e.val h)
+  places_In values c e i h = In-flat_map _ (into k c) e.arrow e (In-into k c e.arrow i) (In-map (entry e.arrow) (values (dom k e.arrow)) e.val h)
 
   pub In_places : (values : ℕ → List Val) (c : ℕ) (e : Entry) → In (places s values c) e → IsInto k c e.arrow × In (values (dom k e.arrow)) e.val
   unfolding places
   In_places values c e h =
       let m = In-flat_map_from (λ f. map (entry f) (values (dom k f))) (into k c) e h in
       let n = In-map_from (entry m.0) (values (dom k m.0)) e m.2 in
-      subst (λ e. IsInto k c e.arrow × In (values (dom k e.arrow)) e.val) n.2 (In_into k c m.0 m.1, n.1)
+      subst (λ e. IsInto k c e.arrow × In (values (dom k e.arrow)) e.val) n.2 (In-into_from k c m.0 m.1, n.1)
 
   pub Distinct-places : (values : ℕ → List Val) (c : ℕ) → ((d : ℕ) → Distinct (values d)) → Distinct (places s values c)
   unfolding places

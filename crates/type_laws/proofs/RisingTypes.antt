@@ -10,7 +10,7 @@ use Rattle.topos_model.specs.types.Types.{Presheaf, places, base_elements, omega
 use Rattle.topos_model.specs.types.Values.{number_of, first_of, second_of, arrows_of, entries_of, assigns_of}
 use Rattle.type_laws.proofs.Selectors.{number_of-El, first_of-Two, second_of-Two, arrows_of-Sv, entries_of-Sub, assigns_of-Fn}
 use Rattle.finite_lists.proofs.Lists.{In-map_from}
-use Rattle.type_laws.proofs.Arrows.{Distinct-into}
+use Rattle.sieve_table.proofs.SieveMembers.{Distinct-into}
 use Rattle.type_laws.proofs.Places.{Distinct-places}
 use Rattle.type_laws.proofs.Presheaves.{Distinct-elements}
 use Rattle.finite_lists.proofs.RisingLists.{Rising-filter, Rising-map, Rising-flat_map, Rising-range, Rising-sublists, SublistBelow-irreflexive}

@@ -12,7 +12,7 @@ use Rattle.topos_model.specs.types.Types.{places, in_entries, closed_below, clos
 use Rattle.type_laws.proofs.Selectors.{entries_of-Sub, Sub-equal}
 use Rattle.finite_lists.proofs.Lists.{same_tests, In-filter, In-filter_from, In-map, In-map_from, all_each, each_all, any_some, some_any, filter_same, filter_sublist, sublist_within, sublist_kept}
 use Rattle.finite_lists.proofs.DistinctLists.{Distinct-filter, Distinct-map, Distinct-sublists}
-use Rattle.type_laws.proofs.Arrows.{into_In, In_into}
+use Rattle.topos_model.proofs.ArrowsInto.{In-into, In-into_from}
 use Rattle.type_laws.proofs.Covers.{or_not, or_not_from, cover_arrow}
 use Rattle.type_laws.proofs.Places.{IsPresheaf, entries_In, In_entries, moved, under, Distinct-places, moved_place, under_place, under_source, moved_under, under_under, under_identity}
 
@@ -33,7 +33,7 @@ module _ (s : Site) (values : ℕ → List Val) (restrict : ℕ → Val → Val)
       let t = and_parts (closed_below s restrict l) (closed_under_covers s restrict (places s values c) l) h in
       record {
         member = m;
-        downward = λ e g i j. entries_In _ _ l (all_each _ (into k (dom k e.arrow)) g (all_each _ l e t.0 i) (into_In k (dom k e.arrow) g j));
+        downward = λ e g i j. entries_In _ _ l (all_each _ (into k (dom k e.arrow)) g (all_each _ l e t.0 i) (In-into k (dom k e.arrow) g j));
         closed = λ e R i r each.
             entries_In e.arrow e.val l (or_not _ _ (all_each _ (places s values c) e t.1 i)
             (some_any _ (covers s (dom k e.arrow)) R r (each_all _ R (λ g j. In_entries _ _ l (each g j)))));
@@ -44,7 +44,7 @@ module _ (s : Site) (values : ℕ → List Val) (restrict : ℕ → Val → Val)
   unfolding closed_below closed_under_covers
   subset_passes c l h =
       and_from _ _
-      (each_all _ l (λ e i. each_all _ (into k (dom k e.arrow)) (λ g j. In_entries _ _ l (h.downward e g i (In_into k (dom k e.arrow) g j)))))
+      (each_all _ l (λ e i. each_all _ (into k (dom k e.arrow)) (λ g j. In_entries _ _ l (h.downward e g i (In-into_from k (dom k e.arrow) g j)))))
       (each_all _ (places s values c) (λ e i.
       or_not_from _ _ (λ t.
       let m = any_some _ (covers s (dom k e.arrow)) t in

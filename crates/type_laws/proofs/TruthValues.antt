@@ -10,7 +10,9 @@ use Rattle.topos_model.specs.types.Values.{same_numbers}
 use Rattle.type_laws.proofs.Selectors.{arrows_of-Sv, Sv-equal}
 use Rattle.finite_lists.proofs.Lists.{In-filter, In-filter_from, In-map, In-map_from, all_each, each_all, any_some, some_any}
 use Rattle.finite_lists.proofs.DistinctLists.{Distinct-filter, Distinct-map, Distinct-sublists}
-use Rattle.type_laws.proofs.Arrows.{IsSieve, has_In, In_has, into_In, In_into, pull_In, sieves_In, In_sieves, pull_sieve, pull_identity, pull_composite, Distinct-into}
+use Rattle.topos_model.proofs.ArrowsInto.{In-into, In-into_from}
+use Rattle.sieve_table.proofs.SieveMembers.{Distinct-into}
+use Rattle.type_laws.proofs.Arrows.{IsSieve, has_In, In_has, pull_In, sieves_In, In_sieves, pull_sieve, pull_identity, pull_composite}
 use Rattle.type_laws.proofs.Covers.{or_not, or_not_from}
 use Rattle.type_laws.proofs.Places.{IsPresheaf}
 use Rattle.type_laws.proofs.Same.{numbers_equal, numbers_self}
@@ -30,7 +32,7 @@ module _ (s : Site) where
       In-map Sv _ S (In-filter _ _ S (sieves_In k c S h.sieve) (each_all _ (into k c) (λ f i.
       or_not_from _ _ (λ t.
       let m = any_some (same_numbers (pull k f S)) (covers s (dom k f)) t in
-      In_has f S (h.closed f (In_into k c f i) (subst (λ R. In (covers s (dom k f)) R) (sym (numbers_equal _ _ m.2)) m.1))))))
+      In_has f S (h.closed f (In-into_from k c f i) (subst (λ R. In (covers s (dom k f)) R) (sym (numbers_equal _ _ m.2)) m.1))))))
 
   pub In_omega : (c : ℕ) (v : Val) → In (omega_elements s c) v → (S : List ℕ) × IsClosedSieve c S × (Sv S ≡ v)
   unfolding omega_elements is_closed_sieve
@@ -41,7 +43,7 @@ module _ (s : Site) where
         record {
           sieve = In_sieves k c m.0 n.0;
           closed = λ f i r.
-              has_In f m.0 (or_not _ _ (all_each _ (into k c) f n.1 (into_In k c f i)) (some_any (same_numbers (pull k f m.0)) (covers s (dom k f)) (pull k f m.0) r (numbers_self (pull k f m.0))));
+              has_In f m.0 (or_not _ _ (all_each _ (into k c) f n.1 (In-into k c f i)) (some_any (same_numbers (pull k f m.0)) (covers s (dom k f)) (pull k f m.0) r (numbers_self (pull k f m.0))));
         },
         m.2,
       )

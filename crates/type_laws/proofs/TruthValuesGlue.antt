@@ -10,7 +10,9 @@ use Rattle.topos_model.specs.types.Types.{omega_elements, omega_along}
 use Rattle.topos_model.specs.types.Values.{arrows_of}
 use Rattle.type_laws.proofs.Selectors.{arrows_of-Sv, Sv-equal}
 use Rattle.finite_lists.proofs.Lists.{In-filter, In-filter_from, all_each, each_all, filter_sublist}
-use Rattle.type_laws.proofs.Arrows.{has_In, In_has, into_In, In_into, pull_In, In_pull, pull_sublist, same_arrows, sieve_arrow}
+use Rattle.topos_model.proofs.ArrowsInto.{In-into, In-into_from}
+use Rattle.sieve_table.proofs.SieveMembers.{In-pull_from}
+use Rattle.type_laws.proofs.Arrows.{has_In, In_has, pull_In, pull_sublist, same_arrows, sieve_arrow}
 use Rattle.type_laws.proofs.TruthValues.{IsClosedSieve, omega_In, In_omega, omega_along_Sv}
 use Rattle.type_laws.proofs.LeastCovers.{IsLeast, IsValueSheaf, arrow, unit, closed_sieve_least, least_closed_sieve}
 
@@ -20,7 +22,7 @@ module _ (s : Site) (laws : IsCategory s.category) (M : ℕ → List ℕ) (least
 
   -- f in S, by the identity in the pulled sieve
   pub pulled_identity : (c f : ℕ) (S : List ℕ) → IsInto k c f → In (pull k f S) (dom k f) → In S f
-  pulled_identity c f S i h = subst (λ x. In S x) (laws.right_neutral c f i) (In_pull k f (dom k f) S h).1
+  pulled_identity c f S i h = subst (λ x. In S x) (laws.right_neutral c f i) (In-pull_from k f (dom k f) S h).1
 
   pub identity_pulled : (c f : ℕ) (S : List ℕ) → IsInto k c f → In S f → In (pull k f S) (dom k f)
   identity_pulled c f S i h = pull_In k c f (dom k f) S (unit s laws M least c f i).0 (subst (λ x. In S x) (sym (laws.right_neutral c f i)) h)
@@ -46,12 +48,12 @@ module _ (s : Site) (laws : IsCategory s.category) (M : ℕ → List ℕ) (least
     glued_sieve = filter (λ h. list_all (λ g. has (dom k g) (σ (compose k h g))) (M (dom k h))) (into k c)
 
     glued_In : (h : ℕ) → IsInto k c h → ((g : ℕ) → In (M (dom k h)) g → In (σ (compose k h g)) (dom k g)) → In glued_sieve h
-    glued_In h i m = In-filter _ _ h (into_In k c h i) (each_all _ (M (dom k h)) (λ g n. In_has _ _ (m g n)))
+    glued_In h i m = In-filter _ _ h (In-into k c h i) (each_all _ (M (dom k h)) (λ g n. In_has _ _ (m g n)))
 
     In_glued : (h : ℕ) → In glued_sieve h → IsInto k c h × ((g : ℕ) → In (M (dom k h)) g → In (σ (compose k h g)) (dom k g))
     In_glued h m =
         let n = In-filter_from (λ h. list_all (λ g. has (dom k g) (σ (compose k h g))) (M (dom k h))) (into k c) h m in
-        (In_into k c h n.0, λ g j. has_In _ _ (all_each (λ g. has (dom k g) (σ (compose k h g))) (M (dom k h)) g n.1 j))
+        (In-into_from k c h n.0, λ g j. has_In _ _ (all_each (λ g. has (dom k g) (σ (compose k h g))) (M (dom k h)) g n.1 j))
 
     glued_downward : (h l : ℕ) → In glued_sieve h → IsInto k (dom k h) l → In glued_sieve (compose k h l)
     glued_downward h l m j =
@@ -86,7 +88,7 @@ module _ (s : Site) (laws : IsCategory s.category) (M : ℕ → List ℕ) (least
     glued_pull f n =
         same_arrows k (dom k f) (pull k f glued_sieve) (σ f) (pull_sublist k f glued_sieve) (each f n).sieve.member
         (λ h m.
-        let p = In_pull k f h glued_sieve m in
+        let p = In-pull_from k f h glued_sieve m in
         let q = laws.composite c f h i p.0 in
         closed_sieve_least s laws M least (dom k f) h (σ f) (each f n) p.0 (λ g j. (read h g p.0 j).0 ((In_glued (compose k f h) p.1).1 g (subst (λ d. In (M d) g) (sym q.1) j))))
         (λ h m.
