@@ -10,6 +10,3 @@ mod tables;
 
 pub use omega::Omega;
 pub use store::empty_store;
-
-#[cfg(test)]
-mod tests;
