@@ -15,3 +15,4 @@ pub mod Views
 pub mod WorkedTables
 pub mod ArrowLists
 pub mod MaskWords
+pub mod MaskDifferences

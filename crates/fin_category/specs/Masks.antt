@@ -1,5 +1,5 @@
 -- Sets of arrow numbers, as words of 64 bits.
-use Rattle.std.specs.Prelude.{ℕ, ◌/◌, ◌%◌, Bool, ◌||◌, List, [], ◌∷◌, get_or, eqb, filter}
+use Rattle.std.specs.Prelude.{◌≡◌, ◌<◌, ℕ, ◌/◌, ◌%◌, Bool, ◌||◌, not, List, [], ◌∷◌, get_or, eqb, filter}
 use Rattle.std.specs.List.{range_with_len}
 use Rattle.std.specs.Int.{bit_at}
 use Rattle.topos_model.specs.categories.Category.{has}
@@ -29,3 +29,9 @@ added f S = filter (λ g. eqb g f || has g S) (range_with_len 0 limit)
 unfoldable pub all_added : List ℕ → List ℕ → List ℕ
 all_added S [] = S
 all_added S (f ∷ fs) = all_added (added f S) fs
+
+-- f is the first number that one of two sets has and the other has not
+pub record IsFirstDifference (f : ℕ) (S T : List ℕ) : Type 0 where
+  pub within : f < max_arrows
+  pub differs : has f S ≡ not (has f T)
+  pub before : (g : ℕ) → g < f → has g S ≡ has g T

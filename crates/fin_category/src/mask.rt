@@ -1,10 +1,10 @@
 // Sets of arrows.
-ghost use Rattle.std.specs.Prelude.{◌≡◌, ◌<◌, [], ◌∷◌, length};
+ghost use Rattle.std.specs.Prelude.{◌≡◌, ◌<◌, [], ◌∷◌, length, MatchOption};
 ghost use Rattle.topos_model.specs.categories.Category.{has};
 ghost use Rattle.topos_model.specs.topologies.Cover.{contains};
 ghost use Rattle.topos_model.specs.statements.Form.{max_arrows};
 ghost use Rattle.topos_model.specs.topologies.TopologyFaults.{intersection};
-ghost use Rattle.fin_category.specs.Masks.{union, added};
+ghost use Rattle.fin_category.specs.Masks.{union, added, IsFirstDifference};
 ghost use Rattle.fin_category.specs.ArrowSets.{arrows_in, left_in};
 
 use crate::ArrowIter;
@@ -83,6 +83,19 @@ impl ArrowMask {
             }
         }
         true
+    }
+
+    /// The first arrow that one of the sets has and the other has not, where there is one.
+    pub fn first_difference(self, o: ArrowMask) -> Option<u32>
+        ensures { MatchOption result (arrows_in self ≡ arrows_in o) (λ f. IsFirstDifference f (arrows_in self) (arrows_in o)) }
+    {
+        for i in 0..8 {
+            let word = self.words[i] ^ o.words[i];
+            if word != 0 {
+                return Some(i as u32 * 64 + word.trailing_zeros());
+            }
+        }
+        None
     }
 
     /// How many arrows there are.

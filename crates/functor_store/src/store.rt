@@ -103,6 +103,14 @@ impl FunctorStore {
         self.cells
     }
 
+    /// How many cells more the budget allows.
+    pub fn room(&self) -> u64
+        ensures room { result + cells self.now ≡ self.now.budget }
+        ensures bounded { self.now.budget ≤ 64_000_000 }
+    {
+        self.budget - self.cells
+    }
+
     /// Counts cells that no functor holds, or answers that they exceed the budget.
     pub fn charge(&mut self, more: u64) -> Result<(), Over>
         requires idle { self.old.building ≡ None }

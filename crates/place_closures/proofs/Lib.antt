@@ -1,0 +1,4 @@
+pub mod PassSteps
+pub mod PairNumbers
+pub mod PairTables
+pub mod PairRows
