@@ -1,14 +1,15 @@
 -- A text has one list of tokens.
 use Rattle.std.proofs.Common.{◌≡◌, ◌⊎◌, inl, inr, ℕ, ◌+◌, ◌≤◌, Bool, true, false, ◌==◌, ◌||◌, List, [], ◌∷◌, ◌++◌, length, take, refl, sym, ap, subst, ◌∙◌, arith, Some, None}
 use Rattle.std.specs.List.{list_all}
-use Rattle.std.specs.Prelude.{IsUtf8}
+use Rattle.std.specs.Prelude.{IsUtf8, encode_utf8_all}
+use Rattle.std.proofs.lemmas.List.{length-append}
 use Rattle.std.specs.Str.{IsValidUpTo}
 use Rattle.unicode_ident.proofs.Computing.{unicode_ident}
 use Rattle.topos_text.specs.declared.word.Word.{Word}
 use Rattle.topos_text.specs.declared.symbol.Symbol.{Symbol}
 use Rattle.topos_text.specs.Spelling.{symbol_of, starts_name, continues_name, is_name}
 use Rattle.topos_text.specs.Tokens.{Token, Reserved, Sign}
-use Rattle.topos_text.specs.Lexing.{SpellsToken, word, symbol, place, name, IsLongest, EndsPlace, Lexes, stop, space, comment, token, is_space, is_no_line_feed, EndsComment, Lex, BeginsNothing}
+use Rattle.topos_text.specs.Lexing.{SpellsToken, word, symbol, place, name, IsLongest, EndsPlace, Lexes, stop, space, comment, token, is_space, is_no_line_feed, EndsComment, Lex, BeginsNothing, IsBadToken}
 use Rattle.topos_tokens.proofs.Characters.{head_same, tail_same, first_true, second_true, is_absurd}
 use Rattle.topos_tokens.proofs.Words.{word_is_name, same_if}
 use Rattle.topos_tokens.proofs.Fronts.{name_start, spelled_some, as_place, as_symbol, symbol_start, symbol_no_place, place_no_start}
@@ -208,3 +209,26 @@ take_all (x ∷ xs) = ap (λ z. x ∷ z) (take_all xs)
 
 pub text_is_valid : (bytes : List ℕ) (n : ℕ) → IsValidUpTo bytes n → IsUtf8 bytes → ⊥
 text_is_valid bytes n v u = v.longest (length bytes) v.short (subst IsUtf8 (sym (take_all bytes)) u)
+
+-- the place at which no token begins is one
+pub to_bad_rest : {n : ℕ} {text last : List ℕ} {ts : List Token} → Lexes n text ts last → BeginsNothing last → (us : List Token) (rest : List ℕ) → Lexes n text us rest → BeginsNothing rest → rest ≡ last
+to_bad_rest {n} {text = text} stop b us rest r c = elim (step r) [
+  | ended none at ↦ sym at
+  | spaced d ds e is q ↦ absurd (is_absurd (is_space d) is (b.no_space d ds e))
+  | commented xs ys e all ends q ↦ absurd (b.no_comment (xs ++ ys) e)
+  | took xs ys t vs e f spelled longest ends q ↦ absurd (b.no_token n xs ys t (sym e) spelled (subst (λ z. IsLongest z xs) (sym e) longest) ends)
+]
+to_bad_rest {n} (space {c = d} {cs = ds} is r) b us rest q c =
+    space_step n d ds rest us _ is (step q) (λ p. to_bad_rest r b us rest p c) (λ none at. absurd (is_absurd (is_space d) is (c.no_space d ds (sym at))))
+to_bad_rest {n} (comment xs {ys = ys} all ends r) b us rest q c =
+    comment_step n xs ys rest us _ all ends (step q) (λ p. to_bad_rest r b us rest p c) (λ none at. absurd (c.no_comment (xs ++ ys) (sym at)))
+to_bad_rest {n} (token {xs = xs} {ys = ys} {t = t} spelled longest ends r) b us rest q c =
+    token_step n xs ys rest t us _ spelled longest (step q) (λ vs is p. to_bad_rest r b vs rest p c)
+    (λ none at. absurd (c.no_token n xs ys t at spelled (subst (λ z. IsLongest z xs) at longest) ends))
+
+pub bad_tokens_are_one : (bytes : List ℕ) (m n : ℕ) → IsBadToken bytes m → IsBadToken bytes n → m ≡ n
+bad_tokens_are_one bytes m n a b =
+    let rest = to_bad_rest a.before a.bad b.tokens b.rest b.before b.bad in
+    let parts : a.front ++ a.rest ≡ b.front ++ b.rest = sym a.parts ∙ b.parts in
+    let len : length a.front ≡ length b.front = omega (arith, ap length parts, ap length rest, length-append a.front a.rest, length-append b.front b.rest) in
+    a.place ∙ ap (λ z. length (encode_utf8_all z)) (same_front a.front a.rest b.front b.rest parts len).0 ∙ sym b.place
