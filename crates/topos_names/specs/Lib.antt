@@ -1,0 +1,5 @@
+pub mod Stops
+pub mod Spaces
+pub mod Scopes
+pub mod Stages
+pub mod Categories
