@@ -4,3 +4,6 @@ pub mod SpaceStatements
 pub mod ScopeNames
 pub mod Declarations
 pub mod StageLemmas
+pub mod VariableLemmas
+pub mod TermEquations
+pub mod Gathering

@@ -3,3 +3,4 @@ pub mod Spaces
 pub mod Scopes
 pub mod Stages
 pub mod Categories
+pub mod Operands

@@ -1,6 +1,7 @@
 //! The document of a syntax tree: names become numbers, in the order of the tokens, within the limits.
 #![tactic(auto)]
 
+mod context;
 mod limit;
 mod names;
 mod numbers;
@@ -9,5 +10,8 @@ mod space;
 mod stages;
 mod stop;
 mod table;
+mod terms;
+mod types;
+mod variables;
 
 pub use stop::NameStop;
