@@ -1,8 +1,8 @@
 -- One change after another along a list that a loop walks.
-use Rattle.std.proofs.Common.{◌≡◌, ℕ, ◌+◌, ◌<◌, ◌≤◌, List, [], ◌∷◌, map, length, get_or, drop, Option, Some, None, Result, Ok, Err, refl, sym, ap, ◌∙◌, arith}
+use Rattle.std.proofs.Common.{◌≡◌, ℕ, ◌+◌, ◌<◌, ◌≤◌, List, map, length, get_or, drop, Ok, Err, ◌∙◌}
 use Rattle.std.proofs.lemmas.List.{at_drop_more, at_drop_all}
 use Rattle.topos_model.specs.declared.fault.Fault.{Fault}
-use Rattle.topos_text.specs.Names.{Checked, ◌>>=◌, change_by, for_each}
+use Rattle.topos_text.specs.Names.{Checked, change_by}
 
 module _ {S A B : Type 0} (change : S → A → Checked S) (view : B → A) where
   -- what is left at the place i

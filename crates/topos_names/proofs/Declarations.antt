@@ -43,4 +43,3 @@ module _ (a : Inside) (x : Name) where
   pub on_map_declared : IsScope a → IsScope (record a { known = a.known ++ x ∷ []; on_maps = a.on_maps ++ x ∷ [] })
   unfolding known
   on_map_declared h = stays (record a { known = a.known ++ x ∷ []; on_maps = a.on_maps ++ x ∷ [] }) refl (Adds-back x (((((((names_of (seen a).site) ++ (seen a).topologies) ++ (functor_names (seen a))) ++ (seen a).maps) ++ (category_names (seen a))) ++ (category_functor_names (seen a))) ++ (on_functor_names (seen a))) (a.on_maps ++ x ∷ []) (seen a).on_maps (Adds-last x a.on_maps)) h
-

@@ -1,11 +1,11 @@
 -- What is found for each of a list that a loop walks.
-use Rattle.std.proofs.Common.{◌≡◌, ℕ, ◌+◌, ◌<◌, ◌≤◌, List, [], ◌∷◌, ◌++◌, map, reverse, take, length, get_or, drop, Option, Some, None, Result, Ok, Err, refl, sym, ap, ◌∙◌, append_assoc, arith}
+use Rattle.std.proofs.Common.{◌≡◌, ℕ, ◌+◌, ◌<◌, ◌≤◌, List, [], ◌∷◌, ◌++◌, map, reverse, take, length, get_or, drop, Some, None, Ok, Err, refl, sym, ap, ◌∙◌, append_assoc}
 use Rattle.std.proofs.lemmas.List.{at_drop_more, at_drop_all, map-append, reverse-append}
 use Rattle.std.proofs.lemmas.Grind.{take_at_read}
 use Rattle.topos_model.specs.declared.ty.Ty.{Ty}
 use Rattle.topos_model.specs.declared.fault.Fault.{Fault}
 use Rattle.topos_text.specs.Trees.{Binding}
-use Rattle.topos_text.specs.Names.{Name, Scope, Checked, ◌>>=◌, ◌>>◌, for_each, twice_fault}
+use Rattle.topos_text.specs.Names.{Name, Scope, Checked, ◌>>=◌, for_each, twice_fault}
 use Rattle.topos_text.specs.TermNames.{type_of, context_of, variables}
 
 -- what was found before, and then the rest

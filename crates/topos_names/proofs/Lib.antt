@@ -7,3 +7,7 @@ pub mod StageLemmas
 pub mod VariableLemmas
 pub mod TermEquations
 pub mod Gathering
+pub mod MadeNames
+pub mod PresheafParts
+pub mod StatementEquations
+pub mod Turns

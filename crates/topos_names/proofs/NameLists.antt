@@ -1,9 +1,8 @@
 -- Names in a table, and the list of their bytes.
-use Rattle.std.proofs.Common.{◌≡◌, ℕ, ◌+◌, ◌<◌, Bool, true, false, cond, eqb, not, ◌||◌, List, [], ◌∷◌, ◌++◌, map, length, position, nat_lt, nat_eq, bytes_eq, replicate, Option, None, Some, Ok, Err, get_or, slice_get, take, zero, suc, Bor, Decides, refl, sym, ap, subst, ◌∙◌, if◌then◌else◌}
-use Rattle.std.specs.List.{list_any, prefix_len, position_or_len}
+use Rattle.std.proofs.Common.{◌≡◌, ℕ, Bool, true, false, eqb, not, ◌||◌, List, [], ◌∷◌, ◌++◌, map, length, position, nat_eq, bytes_eq, replicate, None, Some, Ok, Err, get_or, slice_get, zero, suc, Bor, Decides, refl, sym, ap, ◌∙◌}
+use Rattle.std.specs.List.{list_any, prefix_len}
 use Rattle.std.proofs.lemmas.Slice.Eq.{bytes_eq-Decides}
 use Rattle.std.proofs.lemmas.Bool.Decides.{same_from_decides, Decides-eqb}
-use Rattle.std.proofs.Common.{length-append}
 use Rattle.std.proofs.lemmas.List.{length-map, map-append}
 use Rattle.std.proofs.lemmas.List.Folds.{list_any-append}
 use Rattle.indexmap.specs.IndexMap.{insert_entry}
@@ -133,3 +132,8 @@ module _ {V B C : Type 0} (g : Name × V → B) (h : B → C) (part : V → C) (
 pub values-seen : {V : Type 0} (es : List (Bor Name × V)) → map (λ e. e.1) (map seen es) ≡ map (λ e. e.1) es
 values-seen [] = refl
 values-seen (e ∷ es) = rw (values-seen es)
+
+-- among no names each is unknown
+pub look_up-nothing : (x : Written) (fault : Fault) → fault ≡ NameUnknown x.token x.text → look_up [] x ≡ Err fault
+unfolding number_in
+look_up-nothing x fault is = look_up-none [] x fault refl is

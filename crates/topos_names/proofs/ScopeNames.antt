@@ -1,14 +1,12 @@
 -- The names of a scope, and those that are kept together.
-use Rattle.std.proofs.Common.{◌≡◌, ℕ, Bool, true, false, ◌||◌, List, [], ◌∷◌, ◌++◌, map, length, eqb, get_or, slice_get, unwrap_or, bytes_eq, Option, None, Some, Ok, Err, refl, sym, ap, ◌∙◌}
+use Rattle.std.proofs.Common.{◌≡◌, ℕ, Bool, true, false, ◌||◌, List, [], ◌∷◌, ◌++◌, map, eqb, get_or, slice_get, unwrap_or, bytes_eq, Option, None, Some, Ok, Err, refl, sym, ap, ◌∙◌}
 use Rattle.std.specs.List.{list_any}
-use Rattle.std.proofs.lemmas.List.{map-append}
 use Rattle.std.proofs.lemmas.List.Folds.{list_any-append}
-use Rattle.std.proofs.lemmas.Simd.{map-map}
 use Rattle.finite_lists.specs.First.{some_if}
 use Rattle.topos_model.specs.declared.fault.Fault.{Fault}
 use Rattle.topos_model.specs.declared.fault.Fault.TheVariants.{NameTwice, NameUnknown}
 use Rattle.topos_text.specs.Tokens.{Written}
-use Rattle.topos_text.specs.Names.{Name, Scope, twice_fault, known, names_of, look_up, functor_of, functor_names, category_names, category_functor_names, on_functor_names}
+use Rattle.topos_text.specs.Names.{Name, Scope, twice_fault, known, look_up, functor_of, functor_names, category_names, category_functor_names, on_functor_names}
 use Rattle.topos_text.specs.StatementNames.{category_of, category_functor_of, element_names, space_of, on_functor_of}
 use Rattle.topos_names.specs.Spaces as held
 use Rattle.topos_names.specs.declared.space.Space.{Space}

@@ -1,8 +1,8 @@
 -- What the parts of a statement of a category come to.
-use Rattle.std.proofs.Common.{◌≡◌, ℕ, ◌++◌, List, length, map, replicate, Ok, sym, ap, ◌∙◌}
+use Rattle.std.proofs.Common.{◌≡◌, ℕ, ◌++◌, List, length, replicate, Ok, sym, ap, ◌∙◌}
 use Rattle.topos_text.specs.Tokens.{Written}
 use Rattle.topos_text.specs.Trees.{Arrows}
-use Rattle.topos_text.specs.Names.{Name, Space, ◌>>=◌, change_by, look_up}
+use Rattle.topos_text.specs.Names.{Space, change_by, look_up}
 use Rattle.topos_text.specs.SiteNames.{with_arrow, object_of, site_statement}
 use Rattle.topos_names.specs.Spaces.{limits}
 use Rattle.topos_names.proofs.NameLists.{map_to_one}

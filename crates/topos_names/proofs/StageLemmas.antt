@@ -1,5 +1,5 @@
 -- Objects that stand once, each with its elements.
-use Rattle.std.proofs.Common.{◌≡◌, ℕ, ◌+◌, Bool, true, false, ◌||◌, cond, eqb, nat_eq, List, [], ◌∷◌, ◌++◌, map, length, get_or, slice_get, flat_map, Option, None, Some, unwrap_or, is_some, refl, sym, ap, ◌∙◌, subst, arith}
+use Rattle.std.proofs.Common.{◌≡◌, ℕ, ◌+◌, Bool, true, false, ◌||◌, cond, eqb, nat_eq, List, [], ◌∷◌, ◌++◌, map, flat_map, unwrap_or, is_some, refl, sym, ap, ◌∙◌, subst, arith}
 use Rattle.std.specs.List.{list_any, range_with_len}
 use Rattle.std.proofs.lemmas.List.FromFn.{map-range_with_len_more}
 use Rattle.std.proofs.lemmas.Bool.{eqb-true}
@@ -8,7 +8,7 @@ use Rattle.std.specs.Map.{lookup}
 use Rattle.indexmap.specs.IndexMap.{insert_entry}
 use Rattle.topos_text.specs.Names.{Name}
 use Rattle.topos_text.specs.StatementNames.{elements_at}
-use Rattle.topos_names.specs.Stages.{Apart, IsApart}
+use Rattle.topos_names.specs.Stages.{Apart}
 
 -- whether an object is there
 abbrev pub holds : ℕ → List (ℕ × List Name) → Bool

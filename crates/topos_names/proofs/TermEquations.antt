@@ -1,12 +1,12 @@
 -- What a term comes to, from its parts.
-use Rattle.std.proofs.Common.{◌≡◌, ℕ, List, ◌∷◌, Option, None, Some, Ok, Err, refl}
+use Rattle.std.proofs.Common.{◌≡◌, ℕ, List, ◌∷◌, None, Some, Ok, Err, refl}
 use Rattle.topos_model.specs.declared.ty.Ty.{Ty}
 use Rattle.topos_model.specs.declared.term.Term.{Term}
 use Rattle.topos_model.specs.declared.term.Term.TheVariants as to
 use Rattle.topos_model.specs.declared.fault.Fault.{Fault}
 use Rattle.topos_text.specs.Tokens.{Written}
 use Rattle.topos_text.specs.Trees.{Binding, Binder, TermTree, Named, Truth, Falsity, Unit, Grouped, Paired, First, Second, Applied, Subset, Equal, Member, Not, And, Or, Implies, Bound}
-use Rattle.topos_text.specs.Names.{Name, Scope, ◌>>=◌, number_in, map_of}
+use Rattle.topos_text.specs.Names.{Name, Scope, number_in, map_of}
 use Rattle.topos_text.specs.TermNames.{type_of, term_of, both, bound}
 use Rattle.topos_names.specs.Operands.{name_of}
 

@@ -1,5 +1,5 @@
 -- A second category, and a functor of categories, are declared.
-use Rattle.std.specs.Prelude.{ℕ, List, [], ◌∷◌, ◌++◌}
+use Rattle.std.specs.Prelude.{ℕ, [], ◌∷◌, ◌++◌}
 use Rattle.topos_text.specs.Tokens.{Written}
 use Rattle.topos_text.specs.Names.{Scope, Space}
 use Rattle.topos_text.specs.SiteNames.{raw_category}

@@ -4,3 +4,4 @@ pub mod Scopes
 pub mod Stages
 pub mod Categories
 pub mod Operands
+pub mod Parts

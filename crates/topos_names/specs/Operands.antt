@@ -1,6 +1,5 @@
 -- The parts of terms.
-use Rattle.std.specs.Prelude.{◌≡◌, Option, Some, None, Ok}
-use Rattle.topos_model.specs.declared.ty.Ty.{Ty}
+use Rattle.std.specs.Prelude.{Option, Some, None, Ok}
 use Rattle.topos_model.specs.declared.term.Term.{Term}
 use Rattle.topos_text.specs.Tokens.{Written}
 use Rattle.topos_text.specs.Trees.{TermTree, Named}

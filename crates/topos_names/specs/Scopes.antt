@@ -1,5 +1,5 @@
 -- What contracts see of a scope.
-use Rattle.std.specs.Prelude.{◌≡◌, ℕ, List, map, bytes_eq, Option}
+use Rattle.std.specs.Prelude.{◌≡◌, List, map, bytes_eq, Option}
 use Rattle.std.specs.List.{list_any}
 use Rattle.topos_model.specs.declared.doc.FunctorName.{FunctorName}
 use Rattle.topos_model.specs.declared.doc.CatDecl.{CatDecl}

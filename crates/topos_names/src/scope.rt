@@ -82,11 +82,7 @@ impl<'a> Scope<'a> {
     }
 
     // The topology in force.
-    pub(crate) fn under(
-        &self,
-        alloc: Global,
-        j: &Option<Written<'_>>,
-    ) -> Result<u32, NameStop>
+    pub(crate) fn under(&self, alloc: Global, j: &Option<Written<'_>>) -> Result<u32, NameStop>
         ensures ok { IfOk result (λ number. under_of self.now (option_map written j.now) ≡ Ok number) }
         ensures fault { IfErr result (λ s. Stops (under_of self.now (option_map written j.now)) s) }
     {
@@ -280,11 +276,7 @@ impl<'a> Scope<'a> {
     }
 
     // Declares a map of presheaves on a second category.
-    pub(crate) fn declare_on_map(
-        &mut self,
-        alloc: Global,
-        x: &Written<'a>,
-    ) -> Result<u32, NameStop>
+    pub(crate) fn declare_on_map(&mut self, alloc: Global, x: &Written<'a>) -> Result<u32, NameStop>
         ensures ok { OnOk result (twice_fault (known self.old) (written x.now) ≡ None) }
         ensures declared { OnOk result (self.new ≡ record self.old { on_maps = self.old.on_maps ++ x.now.text.now ∷ [] }) }
         ensures number { IfOk result (λ number. number ≡ length self.old.on_maps) }

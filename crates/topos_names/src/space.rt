@@ -43,9 +43,25 @@ impl<'a> Space<'a> {
         ensures fault { IfErr result (λ s. Stops (names.arrow_of (space_of self.now) (written f.now)) s) }
     {
         let place = self.arrows.number(alloc, f)?;
-        match self.total.checked_add(place) {
-            Some(number) => Ok(number),
-            None => Err(NameStop::NoMemory),
+        Ok(self.behind_identities(place)?)
+    }
+
+    // The number of the declared arrow at this place. No text has so many that it does not fit.
+    pub(crate) fn behind_identities(&self, place: u32) -> Result<u32, NoMemory>
+        ensures { IfOk result (λ number. number ≡ self.now.total + place) }
+    {
+        self.total.checked_add(place).ok_or(NoMemory)
+    }
+
+    // The ends of the declared arrow at this place.
+    pub(crate) fn ends_at(&self, place: u32) -> (u32, u32)
+        ensures { result ≡ names.end_of (space_of self.now) place }
+    {
+        let place = place as usize;
+        if place < self.ends.len() {
+            *self.ends.get(place)
+        } else {
+            (0, 0)
         }
     }
 
@@ -83,7 +99,10 @@ impl<'a> Space<'a> {
         ensures fault { IfErr result (λ s. Stops (names.with_object limits (space_of self.old) (written x.now)) s) }
     {
         one_more(Kind::Objects, u64::from(self.objects.len()))?;
-        one_more(Kind::Arrows, u64::from(self.objects.len()) + u64::from(self.arrows.len()))?;
+        one_more(
+            Kind::Arrows,
+            u64::from(self.objects.len()) + u64::from(self.arrows.len()),
+        )?;
         self.is_new(alloc, x)?;
         self.objects.add(alloc, x)?;
         Ok(())
@@ -96,7 +115,10 @@ impl<'a> Space<'a> {
         ensures objects { self.new.objects ≡ self.old.objects }
         ensures fault { IfErr result (λ s. Stops (names.with_arrow limits (space_of self.old) (written f.now)) s) }
     {
-        one_more(Kind::Arrows, u64::from(self.objects.len()) + u64::from(self.arrows.len()))?;
+        one_more(
+            Kind::Arrows,
+            u64::from(self.objects.len()) + u64::from(self.arrows.len()),
+        )?;
         self.is_new(alloc, f)?;
         self.arrows.add(alloc, f)?;
         Ok(())
@@ -143,7 +165,9 @@ impl<'a> Space<'a> {
     {
         match statement {
             SiteTree::Objects(xs) => self.add_objects(alloc, xs),
-            SiteTree::Arrows { names, dom, cod } => self.add_arrow_statement(alloc, names, dom, cod),
+            SiteTree::Arrows { names, dom, cod } => self.add_arrow_statement(
+                alloc, names, dom, cod,
+            ),
             SiteTree::Composite {
                 after,
                 before,
@@ -189,4 +213,51 @@ impl<'a> Space<'a> {
         self.listed.push((m, n, k))?;
         Ok(())
     }
+}
+
+// How many objects the statements declare. No text declares so many that they do not fit.
+#[tactic(auto, unfolding(topos_text::specs::SiteNames::objects_in))]
+fn objects_in(statements: &[SiteTree<'_>]) -> Result<u32, NoMemory>
+    ensures { IfOk result (λ objects. objects ≡ names.objects_in (map site_of statements.now)) }
+{
+    let mut objects = 0u32;
+    for statement in statements {
+        if let SiteTree::Objects(xs) = statement {
+            let more = u32::try_from(xs.len()).map_err(|_| NoMemory)?;
+            objects = objects.checked_add(more).ok_or(NoMemory)?;
+        }
+    }
+    Ok(objects)
+}
+
+// The names before the statements of a category.
+pub(crate) fn empty_space<'a>(
+    alloc: Global,
+    statements: &[SiteTree<'a>],
+) -> Result<Space<'a>, NoMemory>
+    ensures { IfOk result (λ space. space_of space ≡ names.empty_space (map site_of statements.now)) }
+{
+    let total = objects_in(statements)?;
+    Ok(Space {
+        total,
+        objects: Names::new(alloc),
+        arrows: Names::new(alloc),
+        ends: Row::new(alloc),
+        listed: Row::new(alloc),
+    })
+}
+
+// The names of a category.
+pub(crate) fn category_of<'a>(
+    alloc: Global,
+    statements: &[SiteTree<'a>],
+) -> Result<Space<'a>, NameStop>
+    ensures ok { IfOk result (λ space. change_by (names.site_statement limits) (names.empty_space (map site_of statements.now)) (map site_of statements.now) ≡ Ok (space_of space)) }
+    ensures fault { IfErr result (λ s. Stops (change_by (names.site_statement limits) (names.empty_space (map site_of statements.now)) (map site_of statements.now)) s) }
+{
+    let mut space = empty_space(alloc, statements)?;
+    for statement in statements {
+        space.take(alloc, statement)?;
+    }
+    Ok(space)
 }

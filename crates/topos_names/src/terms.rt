@@ -171,12 +171,7 @@ fn name<'t, 'a>(tree: &'t TermTree<'a>) -> Option<&'t Written<'a>>
 }
 
 // What binds the variable of a term.
-fn bound(
-    alloc: Global,
-    binder: Binder,
-    ty: Ty,
-    body: Boxed<Term>,
-) -> Result<Boxed<Term>, NoMemory>
+fn bound(alloc: Global, binder: Binder, ty: Ty, body: Boxed<Term>) -> Result<Boxed<Term>, NoMemory>
     ensures { (s : scope.Scope) → IfOk result (λ term. term ≡ names.bound s (view.binder_of binder) ty body) }
 {
     match binder {

@@ -12,11 +12,7 @@ use topos_text::TypeTree;
 
 // The type of a tree.
 #[tactic(auto, unfolding(topos_text::specs::TermNames::type_of))]
-pub(crate) fn type_of(
-    alloc: Global,
-    scope: &Scope<'_>,
-    tree: &TypeTree<'_>,
-) -> Result<Ty, NameStop>
+pub(crate) fn type_of(alloc: Global, scope: &Scope<'_>, tree: &TypeTree<'_>) -> Result<Ty, NameStop>
     ensures ok { IfOk result (λ ty. type_of scope.now (view.type_of tree.now) ≡ Ok ty) }
     ensures fault { IfErr result (λ s. Stops (type_of scope.now (view.type_of tree.now)) s) }
 {

@@ -1,4 +1,4 @@
-use Rattle.std.proofs.Common.{◌≡◌, ◌∙◌, [], sym, ap, ◌∷◌}
+use Rattle.std.proofs.Common.{◌∙◌, sym, ap, ◌∷◌}
 use Rattle.std.proofs.lemmas.Result.{err_from_is_err_and}
 use Rattle.topos_text.specs.Views.{binding_of}
 use Rattle.topos_names.proofs.Gathering.{typed-begins, typed-goes_on, typed-stops, typed-twice, typed-ends, variables_more}

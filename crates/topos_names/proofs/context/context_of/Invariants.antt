@@ -1,4 +1,4 @@
-use Rattle.std.proofs.Common.{◌≡◌, [], map, reverse, take}
+use Rattle.std.proofs.Common.{◌≡◌, [], map, take}
 use Rattle.topos_text.specs.TermNames.{context_of, variables}
 use Rattle.topos_text.specs.Views.{binding_of}
 use Rattle.topos_names.proofs.Gathering.{typed}

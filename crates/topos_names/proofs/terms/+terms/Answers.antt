@@ -1,4 +1,4 @@
-use Rattle.std.proofs.Common.{◌≡◌, ◌∙◌, sym, ap, Ok}
+use Rattle.std.proofs.Common.{◌∙◌, sym, ap, Ok}
 use Rattle.std.proofs.lemmas.Result.{err_from_is_err_and}
 use Rattle.topos_text.specs.Tokens.{written}
 use Rattle.topos_text.specs.Views as view

@@ -1,4 +1,4 @@
-use Rattle.std.proofs.Common.{◌≡◌, ◌∙◌, sym}
+use Rattle.std.proofs.Common.{◌∙◌, sym}
 use Rattle.topos_names.proofs.NameLists.{position-now}
 use Rattle.topos_names.proofs.names.Names.find.Goals as goal
 

@@ -1,4 +1,4 @@
-use Rattle.std.proofs.Common.{◌≡◌, ◌∙◌, sym}
+use Rattle.std.proofs.Common.{◌∙◌, sym}
 use Rattle.topos_text.specs.Tokens.{written}
 use Rattle.topos_names.proofs.NameLists.{list_any-now, twice_fault-some, twice_fault-none}
 use Rattle.topos_names.proofs.names.Names.is_new.Goals as goal

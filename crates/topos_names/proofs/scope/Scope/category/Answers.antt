@@ -1,4 +1,3 @@
-use Rattle.std.proofs.Common.{◌≡◌}
 use Rattle.topos_text.specs.Tokens.{written}
 use Rattle.topos_names.proofs.ScopeNames.{category_of-seen}
 use Rattle.topos_names.proofs.scope.Scope.category.Goals as goal

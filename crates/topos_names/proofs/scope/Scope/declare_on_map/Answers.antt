@@ -1,4 +1,3 @@
-use Rattle.std.proofs.Common.{◌≡◌, ◌∙◌}
 use Rattle.std.proofs.lemmas.Result.{err_from_is_err_and}
 use Rattle.topos_text.specs.Tokens.{written}
 use Rattle.topos_names.proofs.ScopeNames.{known_twice, on_map_new}

@@ -1,4 +1,4 @@
-use Rattle.std.proofs.Common.{◌≡◌, ◌∙◌, None, Some, ap}
+use Rattle.std.proofs.Common.{◌∙◌, None, Some, ap}
 use Rattle.topos_names.proofs.ScopeNames.{element_names-at}
 use Rattle.topos_names.proofs.scope.Scope.elements.Goals as goal
 

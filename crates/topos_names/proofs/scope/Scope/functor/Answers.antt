@@ -1,4 +1,3 @@
-use Rattle.std.proofs.Common.{◌≡◌, ◌∙◌, refl}
 use Rattle.topos_text.specs.Tokens.{written}
 use Rattle.topos_names.proofs.ScopeNames.{functor_of-seen}
 use Rattle.topos_names.proofs.scope.Scope.functor.Goals as goal

@@ -1,4 +1,3 @@
-use Rattle.std.proofs.Common.{◌≡◌, ◌∙◌, refl}
 use Rattle.topos_text.specs.Tokens.{written}
 use Rattle.topos_names.proofs.ScopeNames.{known_twice}
 use Rattle.topos_names.proofs.scope.Scope.is_new.Goals as goal

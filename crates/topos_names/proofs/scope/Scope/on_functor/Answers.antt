@@ -1,4 +1,4 @@
-use Rattle.std.proofs.Common.{◌≡◌, eqb, eq-eqb}
+use Rattle.std.proofs.Common.{eq-eqb}
 use Rattle.std.proofs.lemmas.Result.{err_from_is_err_and}
 use Rattle.topos_text.specs.Tokens.{written}
 use Rattle.topos_names.proofs.ScopeNames.{on_functor_of-none, on_functor_of-other, on_functor_of-some}

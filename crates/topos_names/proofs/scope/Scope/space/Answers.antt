@@ -1,4 +1,3 @@
-use Rattle.std.proofs.Common.{◌≡◌}
 use Rattle.topos_names.proofs.ScopeNames.{space_of-at}
 use Rattle.topos_names.proofs.scope.Scope.space.Goals as goal
 

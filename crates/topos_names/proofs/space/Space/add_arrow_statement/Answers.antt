@@ -1,4 +1,4 @@
-use Rattle.std.proofs.Common.{◌≡◌, ◌∙◌, sym, ap, Ok, map, length, replicate}
+use Rattle.std.proofs.Common.{◌∙◌, sym, ap, Ok, map}
 use Rattle.std.proofs.lemmas.List.{length-map}
 use Rattle.topos_text.specs.Tokens.{written}
 use Rattle.topos_names.specs.Spaces.{space_of}

@@ -1,4 +1,3 @@
-use Rattle.std.proofs.Common.{◌≡◌, ◌∙◌, sym, ap, unwrap_or, []}
 use Rattle.topos_names.proofs.StageLemmas.{elements_at-lookup}
 use Rattle.topos_names.proofs.stages.Listed.elements.Goals as goal
 

@@ -1,5 +1,4 @@
-use Rattle.std.proofs.Common.{◌≡◌, ◌∙◌, sym, nat_eq, map}
-use Rattle.std.specs.List.{list_any}
+use Rattle.std.proofs.Common.{◌∙◌, sym, map}
 use Rattle.topos_text.specs.Tokens.{written}
 use Rattle.topos_names.proofs.NameLists.{again_fault-some, again_fault-none, list_any-eqb}
 use Rattle.topos_names.proofs.StageLemmas.{is_some-lookup}

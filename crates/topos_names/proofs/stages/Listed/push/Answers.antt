@@ -1,4 +1,4 @@
-use Rattle.std.proofs.Common.{◌≡◌, ◌∙◌, ℕ, List, ◌++◌, ◌∷◌, [], false, nat_eq, Result, Ok, Err, OnOk, OnErr, subst, sym, map}
+use Rattle.std.proofs.Common.{◌≡◌, ◌∙◌, ℕ, List, false, nat_eq, Result, Ok, Err, OnOk, OnErr, subst, sym}
 use Rattle.indexmap.specs.IndexMap.{insert_entry}
 use Rattle.topos_text.specs.Names.{Name}
 use Rattle.topos_names.specs.Stages.{Apart, IsApart}

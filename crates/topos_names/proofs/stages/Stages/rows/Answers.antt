@@ -1,4 +1,4 @@
-use Rattle.std.proofs.Common.{◌≡◌, ◌∙◌, sym}
+use Rattle.std.proofs.Common.{◌∙◌, sym}
 use Rattle.topos_text.specs.StatementNames.{elements_at}
 use Rattle.topos_names.proofs.StageLemmas.{range_more}
 use Rattle.topos_names.proofs.stages.Stages.rows.Goals as goal

@@ -1,4 +1,4 @@
-use Rattle.std.proofs.Common.{◌≡◌, map, length}
+use Rattle.std.proofs.Common.{◌≡◌, map}
 use Rattle.std.specs.List.{range_with_len}
 use Rattle.topos_text.specs.StatementNames.{elements_at}
 use Rattle.topos_names.proofs.stages.Stages.rows.Given as goal

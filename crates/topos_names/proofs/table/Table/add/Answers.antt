@@ -1,4 +1,4 @@
-use Rattle.std.proofs.Common.{◌≡◌, ◌∙◌, sym, map, ap}
+use Rattle.std.proofs.Common.{◌∙◌, map, ap}
 use Rattle.topos_names.proofs.NameLists.{seen, insert_entry-seen}
 use Rattle.topos_names.proofs.table.Table.add.Goals as goal
 

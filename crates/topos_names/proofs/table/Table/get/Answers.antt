@@ -1,4 +1,4 @@
-use Rattle.std.proofs.Common.{◌≡◌, ◌∙◌, map, ap, slice_get}
+use Rattle.std.proofs.Common.{◌∙◌, ap, slice_get}
 use Rattle.topos_names.proofs.NameLists.{values-seen}
 use Rattle.topos_names.proofs.table.Table.get.Goals as goal
 

@@ -1,4 +1,4 @@
-use Rattle.std.proofs.Common.{◌≡◌, ◌∙◌, sym, map}
+use Rattle.std.proofs.Common.{◌∙◌, sym, map}
 use Rattle.topos_text.specs.Tokens.{written}
 use Rattle.topos_names.proofs.NameLists.{look_up-some, look_up-none, position-seen}
 use Rattle.topos_names.proofs.table.Table.number.Goals as goal

@@ -1,4 +1,4 @@
-use Rattle.std.proofs.Common.{◌≡◌, ◌∙◌, ◌<◌, sym, ap, length, map, reverse, arith, bytes_eq}
+use Rattle.std.proofs.Common.{◌∙◌, ◌<◌, sym, ap, length, map, arith, bytes_eq}
 use Rattle.std.proofs.lemmas.List.{length-map, length-reverse}
 use Rattle.topos_names.proofs.VariableLemmas.{name_at, found_at, found_nowhere, not_before_more}
 use Rattle.topos_names.proofs.variables.Variables.find.Goals as goal

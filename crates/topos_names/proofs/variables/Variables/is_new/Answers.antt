@@ -1,4 +1,4 @@
-use Rattle.std.proofs.Common.{◌≡◌, ◌∙◌, sym}
+use Rattle.std.proofs.Common.{◌∙◌, sym}
 use Rattle.topos_text.specs.Tokens.{written}
 use Rattle.topos_names.proofs.VariableLemmas.{twice_at, new_nowhere}
 use Rattle.topos_names.proofs.variables.Variables.is_new.Goals as goal

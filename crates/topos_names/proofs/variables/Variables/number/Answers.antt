@@ -1,4 +1,4 @@
-use Rattle.std.proofs.Common.{◌≡◌, ◌∙◌, sym}
+use Rattle.std.proofs.Common.{◌∙◌, sym}
 use Rattle.topos_text.specs.Tokens.{written}
 use Rattle.topos_names.proofs.NameLists.{look_up-some, look_up-none}
 use Rattle.topos_names.proofs.variables.Variables.number.Goals as goal
