@@ -1,0 +1,13 @@
+pub mod NameLists
+pub mod Changes
+pub mod SpaceStatements
+pub mod ScopeNames
+pub mod Declarations
+pub mod StageLemmas
+pub mod VariableLemmas
+pub mod TermEquations
+pub mod Gathering
+pub mod MadeNames
+pub mod PresheafParts
+pub mod StatementEquations
+pub mod Turns

@@ -1,0 +1,7 @@
+pub mod Stops
+pub mod Spaces
+pub mod Scopes
+pub mod Stages
+pub mod Categories
+pub mod Operands
+pub mod Parts
