@@ -11,3 +11,4 @@ pub mod MadeNames
 pub mod PresheafParts
 pub mod StatementEquations
 pub mod Turns
+pub mod TopologyTurns

@@ -21,6 +21,7 @@ mod statements;
 mod stop;
 mod table;
 mod terms;
+mod topologies;
 mod types;
 mod variables;
 

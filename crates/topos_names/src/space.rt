@@ -83,7 +83,7 @@ impl<'a> Space<'a> {
 
     // Whether the name is neither of an object nor of an arrow.
     #[tactic(auto, using(crate::proofs::NameLists::twice_fault_of_both))]
-    fn is_new(&self, alloc: Global, x: &Written<'_>) -> Result<(), NameStop>
+    pub(crate) fn is_new(&self, alloc: Global, x: &Written<'_>) -> Result<(), NameStop>
         ensures ok { OnOk result (twice_fault (names_of (space_of self.now)) (written x.now) ≡ None) }
         ensures fault { IfErr result (λ s. Blames (twice_fault (names_of (space_of self.now)) (written x.now)) s) }
     {
