@@ -3,6 +3,8 @@ pub mod Changes
 pub mod SpaceStatements
 pub mod ScopeNames
 pub mod Declarations
+pub mod Kept
+pub mod RowLemmas
 pub mod StageLemmas
 pub mod VariableLemmas
 pub mod TermEquations

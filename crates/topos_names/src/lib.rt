@@ -11,6 +11,7 @@ mod made;
 mod mappings;
 mod names;
 mod numbers;
+mod rows;
 mod scope;
 mod sections;
 mod sent;

@@ -1,7 +1,8 @@
 // Lists of names without repetition, in which a name is found by its bytes.
-ghost use Rattle.std.specs.Prelude.{◌≡◌, ◌<◌, ◌^◌, [], ◌∷◌, ◌++◌, Some, None, false, bytes_eq, length, take, ◌-◌, IfOk, IfErr, OnOk, OnErr};
+ghost use Rattle.std.specs.Prelude.{◌≡◌, ◌<◌, ◌^◌, ◌||◌, [], ◌∷◌, ◌++◌, Some, None, false, bytes_eq, length, take, ◌-◌, IfOk, IfErr, OnOk, OnErr};
 ghost use Rattle.std.specs.List.{list_any};
 ghost use Rattle.topos_text.specs.Tokens.{written};
+ghost use Rattle.topos_text.specs.Names as names;
 ghost use Rattle.topos_text.specs.Names.{twice_fault, look_up, number_in};
 ghost use Rattle.topos_names.specs.Stops.{Stops, Blames};
 
@@ -115,6 +116,27 @@ impl<'a> Names<'a> {
             Ok(_) => Ok(number),
             Err(_) => Err(NoMemory),
         }
+    }
+
+    // Keeps a name, which may be there already.
+    pub(crate) fn keep(&mut self, text: &'a [u8]) -> Result<(), NoMemory>
+        ensures kept { OnOk result ((x : names.Name) → list_any (λ y. bytes_eq y x) self.new ≡ (list_any (λ y. bytes_eq y x) self.old || bytes_eq text.now x)) }
+    {
+        if self.set.contains(text) {
+            return Ok(());
+        }
+        self.push(text)?;
+        Ok(())
+    }
+
+    // Keeps names, some of which may be there already.
+    pub(crate) fn keep_all(&mut self, more: &Names<'a>) -> Result<(), NoMemory>
+        ensures kept { OnOk result ((x : names.Name) → list_any (λ y. bytes_eq y x) self.new ≡ (list_any (λ y. bytes_eq y x) self.old || list_any (λ y. bytes_eq y x) more.now)) }
+    {
+        for text in more.set.as_slice() {
+            self.keep(*text)?;
+        }
+        Ok(())
     }
 
     // Gives the last name up.

@@ -4,18 +4,21 @@ ghost use Rattle.std.specs.Option.{option_map, option_copied};
 ghost use Rattle.topos_text.specs.Tokens.{written};
 ghost use Rattle.topos_text.specs.Names.{twice_fault, known, with_functor, with_maps, functor_of, map_of, topology_of, under_of};
 ghost use Rattle.topos_text.specs.StatementNames as names;
+ghost use Rattle.topos_text.specs.Resolving.{first_scope, document_with};
 ghost use Rattle.topos_names.specs.Categories.{with_category, with_category_functor};
-ghost use Rattle.topos_names.specs.Spaces.{space_of};
+ghost use Rattle.topos_names.specs.Spaces.{space_of, limits};
 ghost use Rattle.topos_names.specs.Stops.{Stops, Blames};
 
 use crate::NameStop;
 use crate::names::Names;
+use crate::rows;
 use crate::space::Space;
 use crate::stages::Stages;
 use crate::stop::name_unknown;
 use crate::table::Table;
 use std::alloc::Global;
 use std::marker::Model;
+use topos_model::{Doc, NoMemory, Row, Stmt, TopDecl};
 use topos_text::Written;
 
 // A presheaf on a second category: the number of that category, and the names of the elements at each object.
@@ -52,6 +55,68 @@ impl<'a> Model for Scope<'a> {
 }
 
 impl<'a> Scope<'a> {
+    // The names of a site and its topologies, before the statements.
+    pub(crate) fn first(
+        alloc: Global,
+        site: Space<'a>,
+        topologies: Names<'a>,
+    ) -> Result<Scope<'a>, NoMemory>
+        ensures { IfOk result (λ scope. scope ≡ first_scope (space_of site.entry) topologies.entry) }
+    {
+        let mut known = Names::new(alloc);
+        known.keep_all(&site.objects)?;
+        known.keep_all(&site.arrows)?;
+        known.keep_all(&topologies)?;
+        Ok(Scope {
+            known,
+            site,
+            topologies,
+            functors: Table::new(alloc),
+            maps: Names::new(alloc),
+            cats: Table::new(alloc),
+            cat_functors: Table::new(alloc),
+            on_functors: Table::new(alloc),
+            on_maps: Names::new(alloc),
+        })
+    }
+
+    // The document of these statements and topologies.
+    pub(crate) fn document(
+        &self,
+        alloc: Global,
+        version: u32,
+        site_len: u32,
+        stmts: Row<Stmt>,
+        tops: Row<TopDecl>,
+    ) -> Result<Doc, NoMemory>
+        ensures { IfOk result (λ doc. doc ≡ document_with limits version site_len (self.now, stmts) tops) }
+    {
+        let objects = self.site.objects.rows(alloc)?;
+        let arrows = self.site.arrows.rows(alloc)?;
+        let cat = self.site.raw(alloc)?;
+        let functors = rows::functors(alloc, &self.functors)?;
+        let maps = self.maps.rows(alloc)?;
+        let cats = rows::categories(alloc, &self.cats)?;
+        let cat_functors = rows::category_functors(alloc, &self.cat_functors)?;
+        let on_functors = rows::on_functors(alloc, &self.on_functors)?;
+        let on_maps = self.on_maps.rows(alloc)?;
+        Ok(Doc {
+            version,
+            objects,
+            arrows,
+            cat,
+            tops,
+            site_len,
+            functors,
+            maps,
+            stmts,
+            cats,
+            cat_functors,
+            on_functors,
+            on_maps,
+        })
+    }
+
     // The number of a functor.
     pub(crate) fn functor(&self, alloc: Global, x: &Written<'_>) -> Result<u32, NameStop>
         ensures ok { IfOk result (λ number. functor_of self.now (written x.now) ≡ Ok number) }

@@ -12,7 +12,7 @@ use crate::NameStop;
 use crate::limit::one_more;
 use crate::names::Names;
 use std::alloc::Global;
-use topos_model::{Kind, NoMemory, Row};
+use topos_model::{Copied, Kind, NoMemory, RawCat, Row};
 use topos_text::{ArrowTree, SiteTree, Written};
 
 // The names of a category: its objects and declared arrows so far, the ends of the arrows, and the listed composites. `total` counts all its objects, also
@@ -79,6 +79,19 @@ impl<'a> Space<'a> {
             ArrowTree::Declared(f) => self.arrow(alloc, f),
             ArrowTree::Identity(x) => self.object(alloc, x),
         }
+    }
+
+    // The category by numbers.
+    pub(crate) fn raw(&self, alloc: Global) -> Result<RawCat, NoMemory>
+        ensures { IfOk result (λ cat. cat ≡ names.raw_category (space_of self.now)) }
+    {
+        let ends = self.ends.copy(alloc)?;
+        let listed = self.listed.copy(alloc)?;
+        Ok(RawCat {
+            objects: self.total,
+            ends,
+            listed,
+        })
     }
 
     // Whether the name is neither of an object nor of an arrow.

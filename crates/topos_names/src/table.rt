@@ -70,6 +70,15 @@ impl<'a, V> Table<'a, V> {
     {
         &self.held[number as usize]
     }
+
+    // The name of this number, and its value.
+    pub(crate) fn entry(&self, number: u32) -> (&'a [u8], &V)
+        requires { number < length self.now }
+        ensures { slice_get self.now number ≡ Some (result.0.now, result.1.now) }
+    {
+        let (text, value) = self.held.get_index(number as usize).unwrap();
+        (*text, value)
+    }
 }
 
 impl<'a, V: Drop> Table<'a, V> {
