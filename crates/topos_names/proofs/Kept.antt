@@ -34,13 +34,13 @@ module _ (site : Space) (topologies ks ks' all : List Name) where
   unfolding known
   known-first x =
       has-none x ((((((names_of (space_of site) ++ topologies) ++ []) ++ []) ++ []) ++ []) ++ [])
-        ∙ has-none x (((((names_of (space_of site) ++ topologies) ++ []) ++ []) ++ []) ++ [])
-        ∙ has-none x ((((names_of (space_of site) ++ topologies) ++ []) ++ []) ++ [])
-        ∙ has-none x (((names_of (space_of site) ++ topologies) ++ []) ++ [])
-        ∙ has-none x ((names_of (space_of site) ++ topologies) ++ [])
-        ∙ has-none x (names_of (space_of site) ++ topologies)
-        ∙ list_any-append (λ z. bytes_eq z x) (names_of (space_of site)) topologies
-        ∙ ap (λ b. b || has x topologies) (list_any-append (λ z. bytes_eq z x) site.objects site.arrows)
+      ∙ has-none x (((((names_of (space_of site) ++ topologies) ++ []) ++ []) ++ []) ++ [])
+      ∙ has-none x ((((names_of (space_of site) ++ topologies) ++ []) ++ []) ++ [])
+      ∙ has-none x (((names_of (space_of site) ++ topologies) ++ []) ++ [])
+      ∙ has-none x ((names_of (space_of site) ++ topologies) ++ [])
+      ∙ has-none x (names_of (space_of site) ++ topologies)
+      ∙ list_any-append (λ z. bytes_eq z x) (names_of (space_of site)) topologies
+      ∙ ap (λ b. b || has x topologies) (list_any-append (λ z. bytes_eq z x) site.objects site.arrows)
 
   pub first_kept : ((x : Name) → has x ks ≡ (has x [] || has x site.objects)) → ((x : Name) → has x ks' ≡ (has x ks || has x site.arrows)) → ((x : Name) → has x all ≡ (has x ks' || has x topologies)) → IsScope first_inside
   first_kept h1 h2 h3 = record { kept = λ x. h3 x ∙ ap (λ b. b || has x topologies) (h2 x ∙ ap (λ b. b || has x site.arrows) (h1 x)) ∙ sym (known-first x) }

@@ -9,13 +9,12 @@ ghost use Rattle.topos_names.specs.Categories.{with_category, with_category_func
 ghost use Rattle.topos_names.specs.Spaces.{space_of, limits};
 ghost use Rattle.topos_names.specs.Stops.{Stops, Blames};
 
-use crate::NameStop;
 use crate::names::Names;
-use crate::rows;
 use crate::space::Space;
 use crate::stages::Stages;
 use crate::stop::name_unknown;
 use crate::table::Table;
+use crate::{NameStop, rows};
 use std::alloc::Global;
 use std::marker::Model;
 use topos_model::{Doc, NoMemory, Row, Stmt, TopDecl};
