@@ -1,16 +1,13 @@
 -- Arrows into an object and sieves, as members of lists, and how sieves pull back.
-use Rattle.std.proofs.Common.{◌≡◌, ℕ, ◌<◌, true, List, length, filter, refl, sym, ◌∙◌, ap, subst, arith, eqb}
-use Rattle.std.specs.List.{range_with_len}
-use Rattle.std.proofs.lemmas.Bool.{eqb-true, eq-eqb}
-use Rattle.finite_lists.specs.Members.{In, Distinct}
+use Rattle.std.proofs.Common.{◌≡◌, ℕ, ◌<◌, true, List, filter, sym, ◌∙◌, ap, subst}
+use Rattle.finite_lists.specs.Members.{In}
 use Rattle.finite_lists.specs.Sublists.{sublists}
-use Rattle.topos_model.specs.categories.Category.{Category, has, into, cod, dom, compose, is_sieve, sieves, pull}
+use Rattle.topos_model.specs.categories.Category.{Category, has, into, dom, compose, is_sieve, sieves, pull}
 use Rattle.topos_model.specs.Laws.{IsCategory, IsInto}
 use Rattle.topos_model.proofs.ArrowsInto.{In-into, In-into_from}
 use Rattle.fin_category.proofs.ArrowLists.{has-In, In-has}
 use Rattle.sieve_table.proofs.SieveMembers.{Distinct-into, In-pull, In-pull_from}
-use Rattle.finite_lists.proofs.Lists.{same_tests, In-filter, In-filter_from, all_each, each_all, any_some, some_any, filter_same, filter_sublist, sublist_within, sublist_kept}
-use Rattle.finite_lists.proofs.DistinctLists.{Distinct-filter, Distinct-range, In-range, In-range_from}
+use Rattle.finite_lists.proofs.Lists.{same_tests, In-filter, In-filter_from, all_each, each_all, filter_same, filter_sublist, sublist_within, sublist_kept}
 
 pub has_In : (f : ℕ) (xs : List ℕ) → has f xs ≡ true → In xs f
 has_In f xs h = In-has xs f h

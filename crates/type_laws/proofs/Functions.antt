@@ -10,7 +10,8 @@ use Rattle.topos_model.specs.topologies.Cover.{Site}
 use Rattle.topos_model.specs.Laws.{IsCategory, IsInto}
 use Rattle.topos_model.specs.types.Types.{places, assignments, at_place, is_natural, fun_elements, fun_along}
 use Rattle.topos_model.specs.types.Values.{same}
-use Rattle.type_laws.proofs.Selectors.{assigns_of-Fn, Fn-equal}
+use Rattle.topos_model.proofs.ValueEquations.{assigns_of-Fn}
+use Rattle.type_laws.proofs.Selectors.{Fn-equal}
 use Rattle.type_laws.proofs.Same.{same_equal, same_self}
 use Rattle.finite_lists.proofs.Lists.{In-filter, In-filter_from, In-map, In-map_from, all_each, each_all, map_same}
 use Rattle.finite_lists.proofs.DistinctLists.{Distinct-filter, Distinct-map}

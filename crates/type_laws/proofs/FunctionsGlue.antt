@@ -9,7 +9,8 @@ use Rattle.topos_model.specs.topologies.Cover.{Site}
 use Rattle.topos_model.specs.Laws.{IsCategory, IsInto}
 use Rattle.topos_model.specs.types.Types.{places, assignments, fun_elements, fun_along}
 use Rattle.topos_model.specs.types.Values.{assigns_of}
-use Rattle.type_laws.proofs.Selectors.{assigns_of-Fn, Fn-equal}
+use Rattle.topos_model.proofs.ValueEquations.{assigns_of-Fn}
+use Rattle.type_laws.proofs.Selectors.{Fn-equal}
 use Rattle.finite_lists.proofs.Lists.{map_same}
 use Rattle.type_laws.proofs.Places.{IsPresheaf, entry, entry_equal, moved, under, places_In, In_places, Distinct-places, moved_place, under_place, under_source}
 use Rattle.type_laws.proofs.Tables.{row, at_entry, at_within, assignment_table, choose}

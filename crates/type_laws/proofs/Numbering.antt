@@ -8,7 +8,7 @@ use Rattle.finite_lists.specs.Members.{In, Distinct}
 use Rattle.topos_model.specs.categories.Category.{Category, cod, dom, compose}
 use Rattle.topos_model.specs.topologies.Cover.{Site, covers}
 use Rattle.topos_model.specs.Laws.{IsCategory, IsInto, IsFunctor, act, size}
-use Rattle.topos_model.specs.topologies.Sheaves.{IsSheaf, IsMatching, IsAmalgamation, element_at}
+use Rattle.topos_model.specs.topologies.Sheaves.{IsSheaf, element_at}
 use Rattle.topos_model.specs.types.Types.{Presheaf}
 use Rattle.topos_model.specs.types.Values.{same}
 use Rattle.type_laws.specs.Numbered.{place_of, numbered}
@@ -16,7 +16,6 @@ use Rattle.type_laws.proofs.Same.{same_equal, same_self}
 use Rattle.type_laws.proofs.Places.{IsPresheaf}
 use Rattle.type_laws.proofs.Covers.{cover_arrow}
 use Rattle.type_laws.proofs.LeastCovers.{IsLeast, IsValueSheaf, arrow, source}
-use Rattle.finite_lists.proofs.Lists.{In_Contains, Contains_In}
 
 place_here : (u v : Val) (rest : List Val) → u ≡ v → place_of v (u ∷ rest) ≡ 0
 unfolding place_of

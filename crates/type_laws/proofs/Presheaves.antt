@@ -11,7 +11,8 @@ use Rattle.topos_model.specs.topologies.Cover.{Site}
 use Rattle.topos_model.specs.Laws.{IsCategory, IsFunctor, act, size}
 use Rattle.topos_model.specs.types.Types.{Presheaf, base_elements, base_along, two_elements, two_along, functor, elements, restr}
 use Rattle.topos_model.specs.types.Values.{second_of}
-use Rattle.type_laws.proofs.Selectors.{number_of-El, first_of-Two, second_of-Two, El-equal, Two-first, Two-second, Two-same}
+use Rattle.topos_model.proofs.ValueEquations.{number_of-El, first_of-Two, second_of-Two}
+use Rattle.type_laws.proofs.Selectors.{El-equal, Two-first, Two-second, Two-same}
 use Rattle.finite_lists.proofs.Lists.{In-map, In-map_from, In-flat_map, In-flat_map_from}
 use Rattle.finite_lists.proofs.DistinctLists.{Distinct-map, Distinct-flat_map, Distinct-range, In-range, In-range_from}
 use Rattle.type_laws.proofs.Places.{IsPresheaf}

@@ -1,5 +1,5 @@
 -- The list of all assignments rises, place by place.
-use Rattle.std.proofs.Common.{ℕ, inl, inr, List, [], ◌∷◌, refl, subst, map}
+use Rattle.std.proofs.Common.{ℕ, inl, inr, List, [], ◌∷◌, refl, subst}
 use Rattle.topos_model.specs.declared.value.Val.{Val}
 use Rattle.topos_model.specs.declared.value.Entry.{Entry}
 use Rattle.topos_model.specs.declared.value.Assign.{Assign}

@@ -8,7 +8,7 @@ use Rattle.topos_model.specs.categories.Category.{into, dom, sieves}
 use Rattle.topos_model.specs.topologies.Cover.{Site}
 use Rattle.topos_model.specs.types.Types.{Presheaf, places, base_elements, omega_elements, two_elements, pow_elements, fun_elements, elements}
 use Rattle.topos_model.specs.types.Values.{number_of, first_of, second_of, arrows_of, entries_of, assigns_of}
-use Rattle.type_laws.proofs.Selectors.{number_of-El, first_of-Two, second_of-Two, arrows_of-Sv, entries_of-Sub, assigns_of-Fn}
+use Rattle.topos_model.proofs.ValueEquations.{number_of-El, first_of-Two, second_of-Two, arrows_of-Sv, entries_of-Sub, assigns_of-Fn}
 use Rattle.finite_lists.proofs.Lists.{In-map_from}
 use Rattle.sieve_table.proofs.SieveMembers.{Distinct-into}
 use Rattle.type_laws.proofs.Places.{Distinct-places}

@@ -1,34 +1,10 @@
--- The parts of a value that is made by a constructor, and equal values have equal parts.
+-- Equal values have equal parts.
 use Rattle.std.proofs.Common.{◌≡◌, ℕ, List, ap, sym, ◌∙◌}
 use Rattle.topos_model.specs.declared.value.Val.{Val, El, Two, Sv, Sub, Fn}
-use Rattle.topos_model.specs.declared.value.Val.TheVariants.{outs-El, outs-Two, outs-Sv, outs-Sub, outs-Fn}
 use Rattle.topos_model.specs.declared.value.Entry.{Entry}
 use Rattle.topos_model.specs.declared.value.Assign.{Assign}
-use Rattle.topos_model.specs.types.Values.{number_in, first_in, second_in, arrows_in, entries_in, assigns_in, number_of, first_of, second_of, arrows_of, entries_of, assigns_of}
-
-pub number_of-El : (n : ℕ) → number_of (El n) ≡ n
-unfolding number_of
-number_of-El n = ap number_in (outs-El n)
-
-pub first_of-Two : (u v : Val) → first_of (Two u v) ≡ u
-unfolding first_of
-first_of-Two u v = ap first_in (outs-Two u v)
-
-pub second_of-Two : (u v : Val) → second_of (Two u v) ≡ v
-unfolding second_of
-second_of-Two u v = ap second_in (outs-Two u v)
-
-pub arrows_of-Sv : (S : List ℕ) → arrows_of (Sv S) ≡ S
-unfolding arrows_of
-arrows_of-Sv S = ap arrows_in (outs-Sv S)
-
-pub entries_of-Sub : (l : List Entry) → entries_of (Sub l) ≡ l
-unfolding entries_of
-entries_of-Sub l = ap entries_in (outs-Sub l)
-
-pub assigns_of-Fn : (l : List Assign) → assigns_of (Fn l) ≡ l
-unfolding assigns_of
-assigns_of-Fn l = ap assigns_in (outs-Fn l)
+use Rattle.topos_model.specs.types.Values.{number_of, first_of, second_of, arrows_of, entries_of, assigns_of}
+use Rattle.topos_model.proofs.ValueEquations.{number_of-El, first_of-Two, second_of-Two, arrows_of-Sv, entries_of-Sub, assigns_of-Fn}
 
 pub El-equal : (m n : ℕ) → El m ≡ El n → m ≡ n
 El-equal m n e = sym (number_of-El m) ∙ ap number_of e ∙ number_of-El n

@@ -10,12 +10,12 @@ use Rattle.finite_lists.specs.Members.{In}
 use Rattle.topos_model.specs.categories.Category.{Category, dom, compose}
 use Rattle.topos_model.specs.topologies.Cover.{Site, covers}
 use Rattle.topos_model.specs.Laws.{IsCategory, IsInto, IsFunctor, act, size}
-use Rattle.topos_model.specs.topologies.Sheaves.{IsSheaf, IsMatching, IsAmalgamation, element_at}
+use Rattle.topos_model.specs.topologies.Sheaves.{IsSheaf, element_at}
 use Rattle.topos_model.specs.types.Types.{Presheaf, base_elements, base_along, two_elements, two_along, functor, elements, restr}
 use Rattle.topos_model.specs.types.Values.{number_of, first_of, second_of}
 use Rattle.topos_model.specs.topologies.Sheaves.{OfSheaves}
-use Rattle.finite_lists.proofs.Lists.{In_Contains, Contains_In}
-use Rattle.type_laws.proofs.Selectors.{number_of-El, first_of-Two, second_of-Two, El-equal, Two-first, Two-second, Two-same}
+use Rattle.topos_model.proofs.ValueEquations.{number_of-El, first_of-Two, second_of-Two}
+use Rattle.type_laws.proofs.Selectors.{El-equal, Two-first, Two-second, Two-same}
 use Rattle.type_laws.proofs.LeastCovers.{IsLeast, IsValueSheaf, arrow}
 use Rattle.type_laws.proofs.TruthValuesGlue.{omega_sheaf}
 use Rattle.type_laws.proofs.SubsetsGlue.{pow_sheaf}

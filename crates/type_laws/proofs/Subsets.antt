@@ -9,7 +9,8 @@ use Rattle.topos_model.specs.categories.Category.{Category, into, dom, compose}
 use Rattle.topos_model.specs.topologies.Cover.{Site, covers}
 use Rattle.topos_model.specs.Laws.{IsCategory, IsInto}
 use Rattle.topos_model.specs.types.Types.{places, in_entries, closed_below, closed_under_covers, pow_elements, pow_along}
-use Rattle.type_laws.proofs.Selectors.{entries_of-Sub, Sub-equal}
+use Rattle.topos_model.proofs.ValueEquations.{entries_of-Sub}
+use Rattle.type_laws.proofs.Selectors.{Sub-equal}
 use Rattle.finite_lists.proofs.Lists.{same_tests, In-filter, In-filter_from, In-map, In-map_from, all_each, each_all, any_some, some_any, filter_same, filter_sublist, sublist_within, sublist_kept}
 use Rattle.finite_lists.proofs.DistinctLists.{Distinct-filter, Distinct-map, Distinct-sublists}
 use Rattle.topos_model.proofs.ArrowsInto.{In-into, In-into_from}

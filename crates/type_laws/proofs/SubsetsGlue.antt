@@ -10,7 +10,8 @@ use Rattle.topos_model.specs.topologies.Cover.{Site}
 use Rattle.topos_model.specs.Laws.{IsCategory, IsInto}
 use Rattle.topos_model.specs.types.Types.{places, in_entries, pow_elements, pow_along}
 use Rattle.topos_model.specs.types.Values.{entries_of}
-use Rattle.type_laws.proofs.Selectors.{entries_of-Sub, Sub-equal}
+use Rattle.topos_model.proofs.ValueEquations.{entries_of-Sub}
+use Rattle.type_laws.proofs.Selectors.{Sub-equal}
 use Rattle.finite_lists.proofs.Lists.{In-filter, In-filter_from, all_each, each_all, filter_sublist, sublist_within, sublist_kept}
 use Rattle.type_laws.proofs.Places.{IsPresheaf, entry, entry_equal, entries_In, In_entries, moved, under, In_places, Distinct-places, moved_place, under_place}
 use Rattle.type_laws.proofs.Subsets.{IsClosedSubset, pow_In, In_pow, narrowed, narrowed_In, In_narrowed, pow_along_Sub}

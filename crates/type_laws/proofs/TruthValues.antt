@@ -7,7 +7,8 @@ use Rattle.topos_model.specs.topologies.Cover.{Site, covers}
 use Rattle.topos_model.specs.Laws.{IsCategory, IsInto}
 use Rattle.topos_model.specs.types.Types.{is_closed_sieve, omega_elements, omega_along}
 use Rattle.topos_model.specs.types.Values.{same_numbers}
-use Rattle.type_laws.proofs.Selectors.{arrows_of-Sv, Sv-equal}
+use Rattle.topos_model.proofs.ValueEquations.{arrows_of-Sv}
+use Rattle.type_laws.proofs.Selectors.{Sv-equal}
 use Rattle.finite_lists.proofs.Lists.{In-filter, In-filter_from, In-map, In-map_from, all_each, each_all, any_some, some_any}
 use Rattle.finite_lists.proofs.DistinctLists.{Distinct-filter, Distinct-map, Distinct-sublists}
 use Rattle.topos_model.proofs.ArrowsInto.{In-into, In-into_from}

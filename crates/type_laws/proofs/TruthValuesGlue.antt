@@ -8,7 +8,8 @@ use Rattle.topos_model.specs.topologies.Cover.{Site}
 use Rattle.topos_model.specs.Laws.{IsCategory, IsInto}
 use Rattle.topos_model.specs.types.Types.{omega_elements, omega_along}
 use Rattle.topos_model.specs.types.Values.{arrows_of}
-use Rattle.type_laws.proofs.Selectors.{arrows_of-Sv, Sv-equal}
+use Rattle.topos_model.proofs.ValueEquations.{arrows_of-Sv}
+use Rattle.type_laws.proofs.Selectors.{Sv-equal}
 use Rattle.finite_lists.proofs.Lists.{In-filter, In-filter_from, all_each, each_all, filter_sublist}
 use Rattle.topos_model.proofs.ArrowsInto.{In-into, In-into_from}
 use Rattle.sieve_table.proofs.SieveMembers.{In-pull_from}
