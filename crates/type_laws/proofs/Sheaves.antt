@@ -23,14 +23,14 @@ use Rattle.type_laws.proofs.FunctionsGlue.{fun_sheaf}
 use Rattle.type_laws.proofs.Presheaves.{base_In, In_base, base_along_El, two_In, In_two, two_along_Two, Distinct-elements, types_presheaf}
 
 -- the entry of a tabulated family
-at_map : (φ : ℕ → ℕ) (S : List ℕ) (f : ℕ) → In S f → element_at S (map φ S) f ≡ φ f
-at_map φ [] f h = absurd h
-at_map φ (g ∷ S) f h =
+pub element_at-map : (φ : ℕ → ℕ) (S : List ℕ) (f : ℕ) → In S f → element_at S (map φ S) f ≡ φ f
+element_at-map φ [] f h = absurd h
+element_at-map φ (g ∷ S) f h =
     elim (cases_Bool (eqb g f)) [
       | inl e ↦ cond-true (eqb g f) (φ g) (element_at S (map φ S) f) e ∙ ap φ (eqb-true g f e)
       | inr e ↦
           cond-false (eqb g f) (φ g) (element_at S (map φ S) f) e
-          ∙ at_map φ S f (elim h [ inl i ↦ absurd (let j = eq-eqb g f i in cc) | inr i ↦ i ])
+          ∙ element_at-map φ S f (elim h [ inl i ↦ absurd (let j = eq-eqb g f i in cc) | inr i ↦ i ])
     ]
 
 module _ (s : Site) (laws : IsCategory s.category) (M : ℕ → List ℕ) (least : IsLeast s M) where
@@ -46,13 +46,13 @@ module _ (s : Site) (laws : IsCategory s.category) (M : ℕ → List ℕ) (least
         let covered : In (covers s c) (M c) = least.above c (M c) object (least.sieve c) (λ f m. m) in
         let one = sheaf c (M c) (map φ (M c)) object covered (record {
           count = length-map (M c) φ;
-          within = λ f h. rw (at_map φ (M c) f h) (low f h);
-          agree = λ f g h j. ap (act X g) (at_map φ (M c) f h) ∙ agree f g h j ∙ sym (at_map φ (M c) (compose k f g) ((least.sieve c).downward f g h j));
+          within = λ f h. rw (element_at-map φ (M c) f h) (low f h);
+          agree = λ f g h j. ap (act X g) (element_at-map φ (M c) f h) ∙ agree f g h j ∙ sym (element_at-map φ (M c) (compose k f g) ((least.sieve c).downward f g h j));
         }) in (
           one.0,
           one.1.within,
-          λ f i. one.1.restricts f i ∙ at_map φ (M c) f i,
-          λ y y' e. one.2 y (record { within = y'; restricts = λ f h. e f h ∙ sym (at_map φ (M c) f h) }),
+          λ f i. one.1.restricts f i ∙ element_at-map φ (M c) f i,
+          λ y y' e. one.2 y (record { within = y'; restricts = λ f h. e f h ∙ sym (element_at-map φ (M c) f h) }),
         )
 
     base_glue : (c : ℕ) (t : ℕ → Val) → c < k.objects → ((f : ℕ) → In (M c) f → In (base_elements X (dom k f)) (t f)) →

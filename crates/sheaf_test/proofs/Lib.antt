@@ -1,0 +1,3 @@
+pub mod MatchingFamilies
+pub mod Amalgamations
+pub mod LeastCoverFamilies
