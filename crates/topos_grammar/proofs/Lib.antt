@@ -11,3 +11,4 @@ pub mod Phrases
 pub mod Documents
 pub mod Steps
 pub mod TermSteps
+pub mod Totality

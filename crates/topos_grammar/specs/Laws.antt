@@ -4,7 +4,7 @@ use Rattle.topos_text.specs.Tokens.{Token}
 use Rattle.topos_text.specs.Trees.{DocumentTree}
 use Rattle.topos_text.specs.Documents.{IsDocument}
 use Rattle.topos_text.specs.Places.{IsSyntaxPlace}
-use Rattle.topos_grammar.specs.Kinds.{Sort, Tree, Kind}
+use Rattle.topos_grammar.specs.Kinds.{Sort, OfDocument, Tree, Kind}
 use Rattle.topos_grammar.specs.Codes.{code, document}
 use Rattle.topos_grammar.specs.Reading.{Read, Whole, Stops, Reads}
 use Rattle.topos_grammar.specs.Follows.{Follow}
@@ -37,3 +37,10 @@ WhatIsReadIsADocument = (toks rest : List Token) (t : DocumentTree) → Reads do
 -- where reading stops is where the tokens cease to be a document
 abbrev pub ReadingStopsAtTheSyntaxPlace : Type 0
 ReadingStopsAtTheSyntaxPlace = (toks rest : List Token) (place : ℕ) → Reads document toks (Stops rest) → place + length rest ≡ length toks + 1 → IsSyntaxPlace toks place
+
+-- reading comes to an end on every list of tokens
+abbrev pub ReadingEnds : Type 0
+ReadingEnds = (s : Sort) (K : Kind s) (toks : List Token) → (r : Read s) × Reads (code K) toks r
+
+abbrev pub ReadingDocumentsEnds : Type 0
+ReadingDocumentsEnds = (toks : List Token) → (r : Read OfDocument) × Reads document toks r

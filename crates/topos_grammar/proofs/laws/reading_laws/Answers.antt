@@ -1,6 +1,7 @@
 use Rattle.topos_grammar.proofs.Uniqueness.{unique}
 use Rattle.topos_grammar.proofs.Phrases.{derives, reads, stops}
 use Rattle.topos_grammar.proofs.Documents as document
+use Rattle.topos_grammar.proofs.Totality.{phrase_ends, document_ends}
 use Rattle.topos_grammar.proofs.laws.reading_laws.Goals as goal
 
 pub returns-clause-unique : goal.returns-clause-unique
@@ -26,3 +27,9 @@ returns-clause-document_place c = λ toks rest place d is. document.syntax_place
 
 pub returns-clause-one_tree : goal.returns-clause-one_tree
 returns-clause-one_tree c = λ toks s t d e. document.one_tree toks s t d e
+
+pub returns-clause-ends : goal.returns-clause-ends
+returns-clause-ends c = λ s K toks. phrase_ends s K toks
+
+pub returns-clause-document_ends : goal.returns-clause-document_ends
+returns-clause-document_ends c = λ toks. document_ends toks
