@@ -24,7 +24,7 @@ unfolding is_name symbol_of
 name_not_symbol [] s e f = absurd cc
 name_not_symbol (c ∷ cs) s e f = is_absurd (starts_name c) (first_true (starts_name c) (list_all continues_name cs) e) (symbol_start c cs s f)
 
-same_token : (n : ℕ) (cs : List ℕ) (t u : Token) → SpellsToken n cs t → SpellsToken n cs u → t ≡ u
+pub same_token : (n : ℕ) (cs : List ℕ) (t u : Token) → SpellsToken n cs t → SpellsToken n cs u → t ≡ u
 same_token n cs t u (word {w = w} e) (word {w = v} f) = ap Reserved (some_same Word w v (sym e ∙ f))
 same_token n cs t u (word {w = w} e) (symbol {s = s} f) = absurd (name_not_symbol cs s (word_is_name cs w e) f)
 same_token n (c ∷ cs) t u (word {w = w} e) (place f) = absurd (is_absurd (starts_name 35) (name_start 35 cs (word_is_name (35 ∷ cs) w e)) place_no_start)
@@ -106,7 +106,7 @@ no_token_at n c cs (x ∷ xs) ys t s e d =
 
 -- ---- one front
 
-same_front : (xs ys vs ws : List ℕ) → xs ++ ys ≡ vs ++ ws → length xs ≡ length vs → (xs ≡ vs) × (ys ≡ ws)
+pub same_front : (xs ys vs ws : List ℕ) → xs ++ ys ≡ vs ++ ws → length xs ≡ length vs → (xs ≡ vs) × (ys ≡ ws)
 same_front [] ys [] ws e len = (refl, e)
 same_front [] ys (v ∷ vs) ws e len = absurd (omega (arith, len))
 same_front (x ∷ xs) ys [] ws e len = absurd (omega (arith, len))

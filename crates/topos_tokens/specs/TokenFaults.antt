@@ -1,5 +1,6 @@
 -- What the tokens of a text are, and why it has none.
-use Rattle.std.specs.Prelude.{◌≡◌, ℕ, List, [], None}
+use Rattle.std.specs.Prelude.{◌≡◌, ◌⊎◌, ℕ, List, [], None, IsUtf8}
+use Rattle.std.specs.Str.{IsValidUpTo}
 use Rattle.topos_model.specs.declared.fault.Fault.TheVariants.{BadToken}
 use Rattle.topos_text.specs.Tokens.{Token}
 use Rattle.topos_text.specs.Lexing.{Lex, IsBadToken}
@@ -24,3 +25,11 @@ abbrev pub IsLexFault : List ℕ → ReadFault → Type 0
 IsLexFault bytes NoMemory = Unit {0}
 IsLexFault bytes (Refused (BadToken n)) = IsBadToken bytes n
 IsLexFault bytes (Refused fault) = ⊥
+
+-- bytes are UTF-8, or are so up to a byte
+abbrev pub EachTextIsUtf8OrNot : Type 0
+EachTextIsUtf8OrNot = (bytes : List ℕ) → IsUtf8 bytes ⊎ ((n : ℕ) × IsValidUpTo bytes n)
+
+-- a text has tokens, or a byte at which none begins
+abbrev pub EachTextHasTokensOrNot : Type 0
+EachTextHasTokensOrNot = (bytes : List ℕ) → IsUtf8 bytes → ((toks : List Token) × Lex bytes toks) ⊎ ((n : ℕ) × IsBadToken bytes n)
