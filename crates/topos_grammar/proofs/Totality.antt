@@ -7,8 +7,9 @@ use Rattle.topos_text.specs.contracts.symbol.Symbol.{the_type as symbol_type}
 use Rattle.topos_text.specs.declared.word.Word.{Word}
 use Rattle.topos_text.specs.declared.symbol.Symbol.{Symbol}
 use Rattle.topos_text.specs.Tokens.{Token, Written, Name, Place, Reserved, Sign}
+use Rattle.topos_text.specs.Trees.{DocumentTree}
 use Rattle.topos_text.specs.Terms.{ends_with_body}
-use Rattle.topos_grammar.specs.Kinds.{Sort, OfDocument, Tree, Kind, AnyType, ProductType, MoreFactors, PrefixType, AnyTerm, Disjunction, MoreDisjuncts, Conjunction, MoreConjuncts, Negation, BinderTerm, Comparison, Application, MoreArguments, Atom, Parentheses, Context, ArrowName, SiteStatement, Cover, Covers, Topology, Section, Element, MapAt, Sent, Under, Step, Statement, Version, First, Second}
+use Rattle.topos_grammar.specs.Kinds.{Sort, Tree, Kind, AnyType, ProductType, MoreFactors, PrefixType, AnyTerm, Disjunction, MoreDisjuncts, Conjunction, MoreConjuncts, Negation, BinderTerm, Comparison, Application, MoreArguments, Atom, Parentheses, Context, ArrowName, SiteStatement, Cover, Covers, Topology, Section, Element, MapAt, Sent, Under, Step, Statement, Version, First, Second}
 use Rattle.topos_grammar.specs.Codes.{Class, This, AnyName, AnyPlace, Numbered, Any, Either, Is, Code, give, eat, name, place, numbered, call, peek, loop, unless, Branch, choose, first_branch, other_branches, code, document}
 use Rattle.topos_grammar.specs.Reading.{Read, Whole, Stops, Reading, Reads, gives, eats, eats_not, names, names_not, places, places_not, numbers, numbers_not, calls, calls_not, peeks, peeks_not, loops, loops_not, loops_end}
 
@@ -136,10 +137,10 @@ Shrinks free eaten must r (call {u = u} K k) = ((free || ltb (rank K) r) ≡ tru
 Shrinks free eaten must r (peek C a b) = Shrinks free eaten must r a × Shrinks free eaten must r b
 Shrinks free eaten must r (loop {u = u} C item k) = Shrinks free false true r item × ((vs : List (Tree u)) → Shrinks free eaten must r (k vs))
 
--- what is read leaves no more than n tokens, and fewer if it must eat
+-- what is read leaves no more than n tokens, and fewer where a token must be eaten and reading does not stop
 abbrev Leaves : {s : Sort} → Read s → ℕ → Bool → Type 0
 Leaves (Whole v rest) n must = (length rest ≤ n) × (must ≡ true → length rest < n)
-Leaves (Stops rest) n must = Unit {0}
+Leaves (Stops rest) n must = length rest ≤ n
 
 abbrev Ends : {s : Sort} → Code s → List Token → ℕ → Bool → Type 0
 Ends {s} c toks n must = (r : Read s) × Reading s c toks r × Leaves r n must
@@ -152,26 +153,26 @@ given : (must eaten : Bool) → (not must || eaten) ≡ true → must ≡ true �
 given true eaten e m = e
 given false eaten e m = absurd (cc)
 
-loop_ends : {s u : Sort} (C : Class) (item : Code u) (start : ℕ) (must : Bool) (most : ℕ) → ((toks : List Token) → length toks ≤ most → Ends item toks (length toks) true) →
+loop_ends : {s u : Sort} (C : Class) (item : Code u) (start : ℕ) (must : Bool) (most : ℕ) → most ≤ start → ((toks : List Token) → length toks ≤ most → Ends item toks (length toks) true) →
     (fuel : ℕ) (k : List (Tree u) → Code s) → ((vs : List (Tree u)) (toks : List Token) → length toks ≤ most → Ends (k vs) toks start must) →
     (toks : List Token) → length toks ≤ most → length toks ≤ fuel → Ends (loop C item k) toks start must
-loop_ends {s} {u} C item start must most item_ends zero k ends toks low few =
+loop_ends {s} {u} C item start must most below item_ends zero k ends toks low few =
     elim (stands C toks) [
       | inr other ↦ let e = ends [] toks low in (e.0, loops_end other e.1, e.2)
       | inl is ↦ stopped (item_ends toks low) is
     ]
   where
     stopped : Ends item toks (length toks) true → Is C toks → Ends (loop C item k) toks start must
-    stopped (Stops rest, d, b) is = (Stops rest, loops_not is d, tt)
+    stopped (Stops rest, d, b) is = (Stops rest, loops_not is d, omega arith)
     stopped (Whole v rest, d, b) is = absurd (let l = b.1 refl in omega arith)
-loop_ends {s} {u} C item start must most item_ends (suc fuel) k ends toks low few =
+loop_ends {s} {u} C item start must most below item_ends (suc fuel) k ends toks low few =
     elim (stands C toks) [
       | inr other ↦ let e = ends [] toks low in (e.0, loops_end other e.1, e.2)
-      | inl is ↦ gone_on (item_ends toks low) is (λ v rest shorter. loop_ends C item start must most item_ends fuel (λ vs. k (v ∷ vs)) (λ vs. ends (v ∷ vs)) rest (omega arith) (omega arith))
+      | inl is ↦ gone_on (item_ends toks low) is (λ v rest shorter. loop_ends C item start must most below item_ends fuel (λ vs. k (v ∷ vs)) (λ vs. ends (v ∷ vs)) rest (omega arith) (omega arith))
     ]
   where
     gone_on : Ends item toks (length toks) true → Is C toks → ((v : Tree u) (rest : List Token) → length rest < length toks → Ends (loop C item (λ vs. k (v ∷ vs))) rest start must) → Ends (loop C item k) toks start must
-    gone_on (Stops rest, d, b) is more = (Stops rest, loops_not is d, tt)
+    gone_on (Stops rest, d, b) is more = (Stops rest, loops_not is d, omega arith)
     gone_on (Whole v rest, d, b) is more = let e = more v rest (b.1 refl) in (e.0, loops is d e.1, e.2)
 
 -- every phrase ends on fewer than n tokens, and those of rank below r on n
@@ -185,39 +186,39 @@ module _ (n r : ℕ) (known : Known n r) where
   code_ends : {s : Sort} (free eaten must : Bool) (start : ℕ) (c : Code s) → Shrinks free eaten must r c → (toks : List Token) → (free ≡ true → length toks < n) → length toks ≤ n →
       (eaten ≡ true → length toks < start) → length toks ≤ start → Ends c toks start must
   code_ends free eaten must start (give v) h toks low few ate within = (Whole v toks, gives, (within, λ m. ate (given must eaten h m)))
-  code_ends free eaten must start (eat u k) h [] low few ate within = (Stops [], eats_not (λ (ts, e). absurd (cc)), tt)
+  code_ends free eaten must start (eat u k) h [] low few ate within = (Stops [], eats_not (λ (ts, e). absurd (cc)), within)
   code_ends {s} free eaten must start (eat u k) h (t ∷ ts) low few ate within =
       elim (same_token t u) [
         | inl e ↦
             let d = code_ends true true must start k h ts (λ _. omega arith) (omega arith) (λ _. omega arith) (omega arith) in
             (d.0, subst (λ z. Reading s (eat u k) (z ∷ ts) d.0) (sym e) (eats d.1), d.2)
-        | inr other ↦ (Stops (t ∷ ts), eats_not (λ p. other (front_same t u ts p.0 p.1)), tt)
+        | inr other ↦ (Stops (t ∷ ts), eats_not (λ p. other (front_same t u ts p.0 p.1)), within)
       ]
-  code_ends free eaten must start (name k) h [] low few ate within = (Stops [], names_not (λ (y, us, e). absurd (cc)), tt)
+  code_ends free eaten must start (name k) h [] low few ate within = (Stops [], names_not (λ (y, us, e). absurd (cc)), within)
   code_ends free eaten must start (name k) h (Name x ∷ ts) low few ate within =
       let d = code_ends true true must start (k x) (h x) ts (λ _. omega arith) (omega arith) (λ _. omega arith) (omega arith) in
       (d.0, names d.1, d.2)
-  code_ends free eaten must start (name k) h (Place m x ∷ ts) low few ate within = (Stops (Place m x ∷ ts), names_not (λ (y, us, e). absurd (cc)), tt)
-  code_ends free eaten must start (name k) h (Reserved w ∷ ts) low few ate within = (Stops (Reserved w ∷ ts), names_not (λ (y, us, e). absurd (cc)), tt)
-  code_ends free eaten must start (name k) h (Sign a ∷ ts) low few ate within = (Stops (Sign a ∷ ts), names_not (λ (y, us, e). absurd (cc)), tt)
-  code_ends free eaten must start (place k) h [] low few ate within = (Stops [], places_not (λ (l, y, us, e). absurd (cc)), tt)
-  code_ends free eaten must start (place k) h (Name x ∷ ts) low few ate within = (Stops (Name x ∷ ts), places_not (λ (l, y, us, e). absurd (cc)), tt)
+  code_ends free eaten must start (name k) h (Place m x ∷ ts) low few ate within = (Stops (Place m x ∷ ts), names_not (λ (y, us, e). absurd (cc)), within)
+  code_ends free eaten must start (name k) h (Reserved w ∷ ts) low few ate within = (Stops (Reserved w ∷ ts), names_not (λ (y, us, e). absurd (cc)), within)
+  code_ends free eaten must start (name k) h (Sign a ∷ ts) low few ate within = (Stops (Sign a ∷ ts), names_not (λ (y, us, e). absurd (cc)), within)
+  code_ends free eaten must start (place k) h [] low few ate within = (Stops [], places_not (λ (l, y, us, e). absurd (cc)), within)
+  code_ends free eaten must start (place k) h (Name x ∷ ts) low few ate within = (Stops (Name x ∷ ts), places_not (λ (l, y, us, e). absurd (cc)), within)
   code_ends free eaten must start (place k) h (Place m x ∷ ts) low few ate within =
       let d = code_ends true true must start (k m x) (h m x) ts (λ _. omega arith) (omega arith) (λ _. omega arith) (omega arith) in
       (d.0, places d.1, d.2)
-  code_ends free eaten must start (place k) h (Reserved w ∷ ts) low few ate within = (Stops (Reserved w ∷ ts), places_not (λ (l, y, us, e). absurd (cc)), tt)
-  code_ends free eaten must start (place k) h (Sign a ∷ ts) low few ate within = (Stops (Sign a ∷ ts), places_not (λ (l, y, us, e). absurd (cc)), tt)
-  code_ends free eaten must start (numbered i k) h [] low few ate within = (Stops [], numbers_not (λ (y, us, e). absurd (cc)), tt)
-  code_ends free eaten must start (numbered i k) h (Name x ∷ ts) low few ate within = (Stops (Name x ∷ ts), numbers_not (λ (y, us, e). absurd (cc)), tt)
+  code_ends free eaten must start (place k) h (Reserved w ∷ ts) low few ate within = (Stops (Reserved w ∷ ts), places_not (λ (l, y, us, e). absurd (cc)), within)
+  code_ends free eaten must start (place k) h (Sign a ∷ ts) low few ate within = (Stops (Sign a ∷ ts), places_not (λ (l, y, us, e). absurd (cc)), within)
+  code_ends free eaten must start (numbered i k) h [] low few ate within = (Stops [], numbers_not (λ (y, us, e). absurd (cc)), within)
+  code_ends free eaten must start (numbered i k) h (Name x ∷ ts) low few ate within = (Stops (Name x ∷ ts), numbers_not (λ (y, us, e). absurd (cc)), within)
   code_ends {s} free eaten must start (numbered i k) h (Place m x ∷ ts) low few ate within =
       elim (same_number m i) [
         | inl e ↦
             let d = code_ends true true must start (k x) (h x) ts (λ _. omega arith) (omega arith) (λ _. omega arith) (omega arith) in
             (d.0, subst (λ j. Reading s (numbered i k) (Place j x ∷ ts) d.0) (sym e) (numbers d.1), d.2)
-        | inr other ↦ (Stops (Place m x ∷ ts), numbers_not (λ (y, us, e). other (cc)), tt)
+        | inr other ↦ (Stops (Place m x ∷ ts), numbers_not (λ (y, us, e). other (cc)), within)
       ]
-  code_ends free eaten must start (numbered i k) h (Reserved w ∷ ts) low few ate within = (Stops (Reserved w ∷ ts), numbers_not (λ (y, us, e). absurd (cc)), tt)
-  code_ends free eaten must start (numbered i k) h (Sign a ∷ ts) low few ate within = (Stops (Sign a ∷ ts), numbers_not (λ (y, us, e). absurd (cc)), tt)
+  code_ends free eaten must start (numbered i k) h (Reserved w ∷ ts) low few ate within = (Stops (Reserved w ∷ ts), numbers_not (λ (y, us, e). absurd (cc)), within)
+  code_ends free eaten must start (numbered i k) h (Sign a ∷ ts) low few ate within = (Stops (Sign a ∷ ts), numbers_not (λ (y, us, e). absurd (cc)), within)
   code_ends {s} free eaten must start (call {u = u} K k) h toks low few ate within =
       behind (known u K toks (callable K free toks h.0 low few)) (λ v rest m shorter.
       code_ends (free || eats_some K) (eaten || eats_some K) must start (k v) (h.1 v) rest
@@ -227,7 +228,7 @@ module _ (n r : ℕ) (known : Known n r) where
       (omega arith))
     where
       behind : Ends (code K) toks (length toks) (eats_some K) → ((v : Tree u) (rest : List Token) → length rest ≤ length toks → (eats_some K ≡ true → length rest < length toks) → Ends (k v) rest start must) → Ends (call K k) toks start must
-      behind (Stops rest, d, b) more = (Stops rest, calls_not d, tt)
+      behind (Stops rest, d, b) more = (Stops rest, calls_not d, omega arith)
       behind (Whole v rest, d, b) more = let e = more v rest b.0 b.1 in (e.0, calls d e.1, e.2)
   code_ends free eaten must start (peek C a b) h toks low few ate within =
       elim (stands C toks) [
@@ -235,7 +236,7 @@ module _ (n r : ℕ) (known : Known n r) where
         | inr other ↦ let d = code_ends free eaten must start b h.1 toks low few ate within in (d.0, peeks_not other d.1, d.2)
       ]
   code_ends free eaten must start (loop C item k) h toks low few ate within =
-      loop_ends C item start must (length toks)
+      loop_ends C item start must (length toks) within
       (λ ts l. code_ends free false true (length ts) item h.0 ts (λ f. let m = low f in omega arith) (omega arith) (λ e. absurd (cc)) (omega arith))
       (length toks) k
       (λ vs ts l. code_ends free eaten must start (k vs) (h.1 vs) ts (λ f. let m = low f in omega arith) (omega arith) (λ e. let m = ate e in omega arith) (omega arith))
@@ -352,8 +353,11 @@ no_rank (suc n) s K toks h =
 pub phrase_ends : (s : Sort) (K : Kind s) (toks : List Token) → (r : Read s) × Reads (code K) toks r
 phrase_ends s K toks = let e = no_rank (suc (length toks)) s K toks (inl (omega arith)) in (e.0, e.1)
 
-pub document_ends : (toks : List Token) → (r : Read OfDocument) × Reads document toks r
-document_ends toks =
-    let n = length toks in
-    let e = code_ends n 2 (more_rank n (no_rank n) 2) false false false n document document_shrinks toks (λ e. absurd (cc)) (omega arith) (λ e. absurd (cc)) (omega arith) in
-    (e.0, e.1)
+pub document_ends : (toks : List Token) → ((t : DocumentTree) × (rest : List Token) × Reads document toks (Whole t rest)) ⊎ ((rest : List Token) × Reads document toks (Stops rest) × (length rest ≤ length toks))
+document_ends toks = by_result (code_ends n 2 (more_rank n (no_rank n) 2) false false false n document document_shrinks toks (λ e. absurd (cc)) (omega arith) (λ e. absurd (cc)) (omega arith))
+  where
+    n : ℕ
+    n = length toks
+    by_result : Ends document toks n false → ((t : DocumentTree) × (rest : List Token) × Reads document toks (Whole t rest)) ⊎ ((rest : List Token) × Reads document toks (Stops rest) × (length rest ≤ length toks))
+    by_result (Whole t rest, d, b) = inl (t, rest, d)
+    by_result (Stops rest, d, b) = inr (rest, d, b)

@@ -1,10 +1,10 @@
 -- What reading by the codes of the grammar means.
-use Rattle.std.specs.Prelude.{◌≡◌, ◌+◌, ℕ, List, [], ◌++◌, length}
+use Rattle.std.specs.Prelude.{◌≡◌, ◌⊎◌, ◌+◌, ◌≤◌, ℕ, List, [], ◌++◌, length}
 use Rattle.topos_text.specs.Tokens.{Token}
 use Rattle.topos_text.specs.Trees.{DocumentTree}
 use Rattle.topos_text.specs.Documents.{IsDocument}
 use Rattle.topos_text.specs.Places.{IsSyntaxPlace}
-use Rattle.topos_grammar.specs.Kinds.{Sort, OfDocument, Tree, Kind}
+use Rattle.topos_grammar.specs.Kinds.{Sort, Tree, Kind}
 use Rattle.topos_grammar.specs.Codes.{code, document}
 use Rattle.topos_grammar.specs.Reading.{Read, Whole, Stops, Reads}
 use Rattle.topos_grammar.specs.Follows.{Follow}
@@ -43,4 +43,5 @@ abbrev pub ReadingEnds : Type 0
 ReadingEnds = (s : Sort) (K : Kind s) (toks : List Token) → (r : Read s) × Reads (code K) toks r
 
 abbrev pub ReadingDocumentsEnds : Type 0
-ReadingDocumentsEnds = (toks : List Token) → (r : Read OfDocument) × Reads document toks r
+ReadingDocumentsEnds =
+    (toks : List Token) → ((t : DocumentTree) × (rest : List Token) × Reads document toks (Whole t rest)) ⊎ ((rest : List Token) × Reads document toks (Stops rest) × (length rest ≤ length toks))
