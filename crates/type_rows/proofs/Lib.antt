@@ -1,0 +1,3 @@
+pub mod TypeRows
+pub mod ArrowPlaces
+pub mod CellSums
