@@ -7,7 +7,7 @@ use Rattle.topos_model.specs.types.Types.{Presheaf}
 use Rattle.functor_store.specs.Store.{Store}
 use Rattle.functor_store.specs.Faithful.{IsFaithful}
 use Rattle.place_closures.specs.Pairs.{AreRestricted, CanAsk}
-use Rattle.exponentials.specs.Sealed.{sizes_in, restrictions_in, IsObjectOf, IsElementOf}
+use Rattle.sealed_types.specs.Sealed.{sizes_in, restrictions_in, IsObjectOf, IsElementOf}
 
 abbrev pub SealedTypesRestrict : Type 0
 SealedTypesRestrict =

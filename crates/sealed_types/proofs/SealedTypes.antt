@@ -16,8 +16,8 @@ use Rattle.type_laws.proofs.Places.{IsPresheaf}
 use Rattle.type_laws.proofs.Numbering.{place_of_at, get_In}
 use Rattle.type_laws.proofs.Presheaves.{Distinct-elements, types_presheaf}
 use Rattle.type_laws.specs.Numbered.{place_of}
-use Rattle.exponentials.specs.Sealed.{sizes_in, restrictions_in}
-use Rattle.exponentials.specs.Laws.{SealedTypesRestrict, SealedTypesCanBeAsked}
+use Rattle.sealed_types.specs.Sealed.{sizes_in, restrictions_in}
+use Rattle.sealed_types.specs.Laws.{SealedTypesRestrict, SealedTypesCanBeAsked}
 
 -- elements with one value have one number
 one_number : (xs : List Val) (m n : ℕ) → Distinct xs → m < length xs → n < length xs → get_or xs m Star ≡ get_or xs n Star → m ≡ n

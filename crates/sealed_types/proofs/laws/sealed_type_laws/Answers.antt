@@ -1,5 +1,5 @@
-use Rattle.exponentials.proofs.SealedTypes.{sealed_restricted, sealed_asked}
-use Rattle.exponentials.proofs.laws.sealed_type_laws.Goals as goal
+use Rattle.sealed_types.proofs.SealedTypes.{sealed_restricted, sealed_asked}
+use Rattle.sealed_types.proofs.laws.sealed_type_laws.Goals as goal
 
 pub returns-clause-restrict : goal.returns-clause-restrict
 returns-clause-restrict c = sealed_restricted

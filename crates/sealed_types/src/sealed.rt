@@ -10,7 +10,7 @@ pub struct Sealed<'a> {
 }
 
 impl<'a> Elements for Sealed<'a> {
-    ghost use Rattle.exponentials.specs.Sealed.{sizes_in, restrictions_in, IsObjectOf, IsElementOf};
+    ghost use Rattle.sealed_types.specs.Sealed.{sizes_in, restrictions_in, IsObjectOf, IsElementOf};
 
     ghost size = { λ x. sizes_in x.store.now x.id };
 
