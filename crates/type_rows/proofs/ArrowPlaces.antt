@@ -12,7 +12,7 @@ use Rattle.functor_store.specs.Store.{place}
 use Rattle.functor_store.proofs.Costs.{arrows_into}
 use Rattle.sealed_functors.specs.Rows.{part}
 
-range_split : (a m l : ℕ) → range_with_len a (m + l) ≡ range_with_len a m ++ range_with_len (a + m) l
+pub range_split : (a m l : ℕ) → range_with_len a (m + l) ≡ range_with_len a m ++ range_with_len (a + m) l
 range_split a zero l = let e : zero + l ≡ l = omega arith in let z : a + zero ≡ a = omega arith in ap (range_with_len a) e ∙ ap (λ n. range_with_len n l) (sym z)
 range_split a (suc m) l =
     let e : suc m + l ≡ suc (m + l) = omega arith in

@@ -1,7 +1,7 @@
 -- Cells, object by object: each member at c costs so many.
 use Rattle.std.proofs.Common.{◌≡◌, ℕ, zero, suc, ◌+◌, ◌-◌, inl, inr, subst, ◌*◌, ◌/◌, ◌<◌, ◌≤◌, [], ◌∷◌, map, sum, refl, sym, ap, ◌∙◌, arith}
 use Rattle.std.specs.List.{range_with_len}
-use Rattle.std.proofs.Math.Nat.{le-div_iff_mul-le, div-mul-le_self, mul-le-mul_right}
+use Rattle.std.proofs.Math.Nat.{le-mul_of_pos_right, le-div_iff_mul-le, div-mul-le_self, mul-le-mul_right}
 use Rattle.std.proofs.lemmas.Bool.{cases_lt}
 use Rattle.std.proofs.lemmas.List.Sums.{sum_by-append}
 use Rattle.std.proofs.lemmas.List.FromFn.{map-range_with_len_more}
@@ -34,6 +34,12 @@ module _ (count cost : ℕ → ℕ) where
   -- what is left after the first c objects does not reach for the next, and so not for all
   pub over_all : (room left c n : ℕ) → left + cells_below c ≡ room → c < n → left < count c * cost c → room < cells_below n
   over_all room left c n spent low over = omega (arith, spent, over, cells_more c, cells_within (c + 1) n (omega (arith, low)))
+
+  -- there are no more members than cells
+  pub member_within : (c n : ℕ) → c < n → 0 < cost c → count c ≤ cells_below n
+  member_within c n low positive =
+      let m : count c ≤ count c * cost c = le-mul_of_pos_right (count c) positive in
+      omega (arith, m, cells_more c, cells_within (c + 1) n (omega (arith, low)))
 
 -- more members than the room allows cost more than it
 pub over_room : (n room cost : ℕ) → 0 < cost → room / cost < n → room < n * cost

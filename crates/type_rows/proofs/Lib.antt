@@ -1,3 +1,4 @@
 pub mod TypeRows
 pub mod ArrowPlaces
 pub mod CellSums
+pub mod FlatRows
