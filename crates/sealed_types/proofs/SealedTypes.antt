@@ -16,6 +16,7 @@ use Rattle.type_laws.proofs.Places.{IsPresheaf}
 use Rattle.type_laws.proofs.Numbering.{place_of_at, get_In}
 use Rattle.type_laws.proofs.Presheaves.{Distinct-elements, base_presheaf, type_presheaf}
 use Rattle.type_laws.specs.Numbered.{place_of}
+use Rattle.sealed_types.specs.Sealed.{sizes_in, restrictions_in}
 use Rattle.sealed_types.specs.Laws.{SealedTypesRestrict, SealedTypesCanBeAsked}
 
 -- elements with one value have one number
@@ -72,6 +73,23 @@ module _ (s : Site) (functors : List Presheaf) (laws : IsCategory s.category) (T
         one_number (elements s functors T (dom k g)) (along g (along f n)) (along (compose k f g) n) (Distinct-elements s functors T (dom k g)) second.within
         (subst (λ d. along (compose k f g) n < length (elements s functors T d)) e whole.within) is;
   }
+
+-- a sealed type has as many numbers as elements, and each number restricts as its element
+module _ (s : Site) (functors : List Presheaf) (store : Store) (id : ℕ) (h : IsFaithful s functors store) (low : id < length store.sealed) where
+  abbrev key : Ty
+  key = (functor_at store.sealed id).key
+
+  pub sealed_size : (c : ℕ) → c < s.category.objects → sizes_in store id c ≡ length (elements s functors (functor_at store.sealed id).key c)
+  sealed_size c object = (h.held id low).sizes c object
+
+  pub sealed_stands : (c f n : ℕ) → IsInto s.category c f → n < sizes_in store id c →
+      Stands s functors (functor_at store.sealed id).key (dom s.category f) (restrictions_in store id f n) (restr s functors (functor_at store.sealed id).key f (get_or (elements s functors (functor_at store.sealed id).key c) n Star))
+  sealed_stands c f n i inside =
+      let F = functor_at store.sealed id in
+      let k = s.category in
+      subst (λ ends. Stands s functors key (dom k f) (restriction_along ends F f n) (restr s functors key f (get_or (elements s functors key c) n Star))) (sym h.ends)
+      (subst (λ d. Stands s functors key (dom k f) (restriction_along k.ends F f n) (restr s functors key f (get_or (elements s functors key d) n Star))) i.1
+      ((h.held id low).restrictions f n i.0 (subst (λ d. n < size_at F d) (sym i.1) inside)))
 
 pub sealed_restricted : SealedTypesRestrict
 sealed_restricted s functors store id laws h low =

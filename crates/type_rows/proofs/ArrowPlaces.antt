@@ -1,5 +1,5 @@
 -- An arrow stands at its place among those into its codomain, and an entry of a part stands at its place in the whole.
-use Rattle.std.proofs.Common.{◌≡◌, ℕ, zero, suc, ◌+◌, ◌-◌, ◌*◌, ◌<◌, Bool, true, cond, List, ◌∷◌, ◌++◌, length, get_or, take, drop, filter, eqb, refl, sym, ap, subst, ◌∙◌, arith}
+use Rattle.std.proofs.Common.{◌≡◌, ℕ, zero, suc, ◌+◌, ◌-◌, ◌*◌, ◌<◌, ◌≤◌, Bool, true, cond, List, ◌∷◌, ◌++◌, length, get_or, take, drop, filter, eqb, refl, sym, ap, subst, ◌∙◌, arith}
 use Rattle.std.specs.List.{range_with_len}
 use Rattle.std.proofs.lemmas.Bool.{eq-eqb}
 use Rattle.std.proofs.lemmas.List.{length-append, get_or-take, get_or-drop, get_or-append-add, length-take-le}
@@ -7,6 +7,7 @@ use Rattle.std.proofs.lemmas.List.Elements.{filter-append}
 use Rattle.finite_lists.proofs.Lists.{filter_same}
 use Rattle.finite_lists.proofs.DistinctLists.{In-range_from}
 use Rattle.topos_model.specs.categories.Category.{Category, into, cod}
+use Rattle.topos_model.specs.Laws.{IsCategory}
 use Rattle.functor_store.specs.Store as store
 use Rattle.functor_store.specs.Store.{place}
 use Rattle.functor_store.proofs.Costs.{arrows_into}
@@ -52,3 +53,11 @@ pub part_entry : (w : ℕ) (xs : List ℕ) (k i : ℕ) → i < w → get_or (par
 part_entry w xs k i low =
     let e : k * w + w - k * w ≡ w = omega arith in
     ap (λ n. get_or (take n (drop (k * w) xs)) i 0) e ∙ get_or-take w (drop (k * w) xs) i 0 low ∙ get_or-drop (k * w) xs i 0
+
+-- each object has an identity
+pub few_objects : (k : Category) → IsCategory k → k.objects ≤ length k.ends
+few_objects k laws = at k.objects refl
+  where
+    at : (n : ℕ) → k.objects ≡ n → k.objects ≤ length k.ends
+    at zero e = omega (arith, e)
+    at (suc n) e = let l = (laws.identity n (omega (arith, e))).0.0 in omega (arith, e, l)

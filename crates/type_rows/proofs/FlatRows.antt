@@ -1,5 +1,5 @@
 -- Rows of one length that stand behind one another.
-use Rattle.std.proofs.Common.{◌≡◌, ℕ, zero, suc, ◌+◌, ◌-◌, ◌*◌, ◌<◌, ◌≤◌, List, [], ◌∷◌, ◌++◌, length, get_or, take, drop, inl, inr, refl, sym, ap, ◌∙◌, arith}
+use Rattle.std.proofs.Common.{◌≡◌, ℕ, zero, suc, ◌+◌, ◌-◌, ◌*◌, ◌<◌, ◌≤◌, List, [], ◌∷◌, ◌++◌, length, get_or, take, drop, slice_range, inl, inr, refl, sym, ap, ◌∙◌, arith}
 use Rattle.std.specs.List.{flat_map, range_with_len}
 use Rattle.std.proofs.Math.Nat.{mul-le-mul_right}
 use Rattle.std.proofs.lemmas.Grind.{flat_map-append}
@@ -61,3 +61,14 @@ row_part row w n k each low =
     same_lists (part w xs k) (row k) (l ∙ sym (each k low)) (λ i d inside.
     let inside' : i < w = omega (arith, inside, l) in
     get_or_default (part w xs k) i d 0 inside ∙ part_entry w xs k i inside' ∙ rows_at row w n each k i 0 low inside' ∙ get_or_default (row k) i 0 d (omega (arith, inside', each k low)))
+
+-- parts of no length
+pub no_part : (xs : List ℕ) (k : ℕ) → xs ≡ [] → part 0 xs k ≡ []
+no_part xs k e = ap (λ ys. part 0 ys k) e ∙ none (k * 0)
+  where
+    nothing : (xs : List ℕ) → take 0 xs ≡ []
+    nothing [] = refl
+    nothing (x ∷ xs) = refl
+
+    none : (m : ℕ) → slice_range {X = ℕ} [] m (m + 0) ≡ []
+    none m = let e : m + 0 - m ≡ 0 = omega arith in ap (λ j. take j (drop {A = ℕ} m [])) e ∙ nothing (drop m [])
