@@ -6,6 +6,7 @@ use Rattle.std.proofs.lemmas.Grind.{flat_map-append}
 use Rattle.std.proofs.lemmas.List.{length-append, get_or_append_left, get_or-append_right, append-nil, same_lists, get_or_default, length-take-le, length-drop}
 use Rattle.std.proofs.lemmas.List.FromFn.{get_or-range_with_len, length-range_with_len}
 use Rattle.finite_lists.specs.Members.{In}
+use Rattle.finite_lists.proofs.Lists.{In_at}
 use Rattle.finite_lists.proofs.DistinctLists.{In-range_from}
 use Rattle.sealed_functors.specs.Rows.{part}
 use Rattle.type_rows.proofs.ArrowPlaces.{range_split, part_entry}
@@ -50,17 +51,18 @@ rows_more row n =
     ∙ ap (λ t. flat_map row (range_with_len 0 n) ++ t) (append-nil (row n))
 
 -- a row as a part of all
-pub row_part : (row : ℕ → List ℕ) (w n k : ℕ) → ((k : ℕ) → k < n → length (row k) ≡ w) → k < n → part w (flat_map row (range_with_len 0 n)) k ≡ row k
-row_part row w n k each low =
-    let xs = flat_map row (range_with_len 0 n) in
-    let m : suc k * w ≤ n * w = mul-le-mul_right w (omega (arith, low)) in
+pub joined_part : {A : Type 0} (row : A → List ℕ) (w : ℕ) (xs : List A) (k : ℕ) (e : A) → ((x : A) → In xs x → length (row x) ≡ w) → k < length xs → part w (flat_map row xs) k ≡ row (get_or xs k e)
+joined_part row w xs k e each low =
+    let all = flat_map row xs in
+    let m : suc k * w ≤ length xs * w = mul-le-mul_right w (omega (arith, low)) in
     let s : suc k * w ≡ k * w + w = omega arith in
-    let long : length xs ≡ n * w = length-rows row w n each in
-    let e : k * w + w - k * w ≡ w = omega arith in
-    let l : length (part w xs k) ≡ w = ap (λ j. length (take j (drop (k * w) xs))) e ∙ length-take-le w (drop (k * w) xs) (omega (arith, length-drop (k * w) xs, long, m, s)) in
-    same_lists (part w xs k) (row k) (l ∙ sym (each k low)) (λ i d inside.
+    let long : length all ≡ length xs * w = length-joined row w xs each in
+    let here : length (row (get_or xs k e)) ≡ w = each (get_or xs k e) (In_at xs k e low) in
+    let z : k * w + w - k * w ≡ w = omega arith in
+    let l : length (part w all k) ≡ w = ap (λ j. length (take j (drop (k * w) all))) z ∙ length-take-le w (drop (k * w) all) (omega (arith, length-drop (k * w) all, long, m, s)) in
+    same_lists (part w all k) (row (get_or xs k e)) (l ∙ sym here) (λ i d inside.
     let inside' : i < w = omega (arith, inside, l) in
-    get_or_default (part w xs k) i d 0 inside ∙ part_entry w xs k i inside' ∙ rows_at row w n each k i 0 low inside' ∙ get_or_default (row k) i 0 d (omega (arith, inside', each k low)))
+    get_or_default (part w all k) i d 0 inside ∙ part_entry w all k i inside' ∙ joined_at row w xs k i e 0 each low inside' ∙ get_or_default (row (get_or xs k e)) i 0 d (omega (arith, inside', here)))
 
 -- parts of no length
 pub no_part : (xs : List ℕ) (k : ℕ) → xs ≡ [] → part 0 xs k ≡ []
