@@ -1,8 +1,7 @@
 -- What types that are sealed in a store say by their numbers.
 use Rattle.std.specs.Prelude.{ℕ, ◌<◌, List, length}
-use Rattle.std.specs.List.{All}
 use Rattle.topos_model.specs.topologies.Cover.{Site}
-use Rattle.topos_model.specs.Laws.{IsCategory, IsFunctor}
+use Rattle.topos_model.specs.Laws.{IsCategory}
 use Rattle.topos_model.specs.types.Types.{Presheaf}
 use Rattle.functor_store.specs.Store.{Store}
 use Rattle.functor_store.specs.Faithful.{IsFaithful}
@@ -11,7 +10,7 @@ use Rattle.sealed_types.specs.Sealed.{sizes_in, restrictions_in, IsObjectOf, IsE
 
 abbrev pub SealedTypesRestrict : Type 0
 SealedTypesRestrict =
-    (s : Site) (functors : List Presheaf) (store : Store) (id : ℕ) → IsCategory s.category → All (IsFunctor s.category) functors → IsFaithful s functors store → id < length store.sealed →
+    (s : Site) (functors : List Presheaf) (store : Store) (id : ℕ) → IsCategory s.category → IsFaithful s functors store → id < length store.sealed →
     AreRestricted s.category (sizes_in store id) (restrictions_in store id)
 
 abbrev pub SealedTypesCanBeAsked : Type 0

@@ -1,5 +1,5 @@
 -- A functor that is sealed in a store, as elements by their numbers.
-use Rattle.std.specs.Prelude.{ℕ, ◌<◌, List, length, get_or}
+use Rattle.std.specs.Prelude.{ℕ, ◌<◌, length, get_or}
 use Rattle.functor_store.specs.Store.{Store, functor_at, size_at, restriction_along}
 
 -- how many elements there are at each object
