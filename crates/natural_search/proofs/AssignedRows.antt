@@ -9,7 +9,7 @@ use Rattle.natural_search.specs.declared.squares.Square.{Square}
 use Rattle.natural_search.specs.Search.{assignments, fitting}
 use Rattle.natural_search.specs.Squares.{is_fitting}
 use Rattle.natural_search.proofs.ListChoices.{In-choices_from}
-use Rattle.natural_search.proofs.JoinedRows.{AreLong}
+use Rattle.natural_search.specs.Rows.{AreLong}
 
 pub append_right : (p rest : List ℕ) (i : ℕ) → get_or (p ++ rest) (length p + i) 0 ≡ get_or rest i 0
 append_right [] rest i = let e : 0 + i ≡ i = omega arith in ap (λ n. get_or rest n 0) e

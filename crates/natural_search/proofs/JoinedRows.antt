@@ -3,10 +3,7 @@ use Rattle.std.proofs.Common.{◌≡◌, ℕ, zero, suc, ◌+◌, ◌*◌, ◌<�
 use Rattle.std.proofs.lemmas.List.{length-append, take-append-le, take_all}
 use Rattle.std.proofs.Math.Seq.{drop-append-add}
 use Rattle.finite_lists.specs.Members.{In}
-use Rattle.natural_search.specs.Rows.{joined}
-
-abbrev pub AreLong : ℕ → List (List ℕ) → Type 0
-AreLong w all = (row : List ℕ) → In all row → length row ≡ w
+use Rattle.natural_search.specs.Rows.{joined, AreLong}
 
 -- so many numbers from the start of a row on are the row
 pub row_at : (all : List (List ℕ)) (w i : ℕ) → AreLong w all → i < length all → take w (drop (i * w) (joined all)) ≡ get_or all i []

@@ -12,3 +12,4 @@ pub mod Narrowing
 pub mod PlaceSearch
 pub mod GuardedSearch
 pub mod FreeCounts
+pub mod RisingRows

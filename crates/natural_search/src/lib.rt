@@ -5,6 +5,7 @@ mod chains;
 mod domains;
 mod free_places;
 mod links;
+mod order;
 mod preimages;
 mod residues;
 mod rows;
