@@ -6,6 +6,7 @@ use Rattle.finite_lists.specs.Members.{In}
 use Rattle.topos_model.specs.Laws.{IsInto}
 use Rattle.place_closures.specs.Pairs.{start}
 use Rattle.sealed_functors.specs.declared.rows.ElementRows.{ElementRows}
+use Rattle.sealed_functors.specs.Rows.{rows_at}
 use Rattle.natural_search.specs.Rows.{joined}
 use Rattle.natural_search.specs.declared.squares.Square.{Square}
 use Rattle.natural_search.specs.Search.{fitting}
@@ -81,3 +82,8 @@ pub record AreFunctionRows (k : Category) (size : ℕ → ℕ) (move : ℕ → �
   pub length_is : length r.restrictions ≡ r.count * length (into k c)
   pub numbers : (n i : ℕ) → n < r.count → i < length (into k c) →
       IsRowNumber k size move size' move' (dom k (get_or (into k c) i 0)) (get_or r.restrictions (n * length (into k c) + i) 0) (under_row k size move c (get_or (into k c) i 0) (get_or (function_rows k size move size' move' c) n []))
+
+-- the same at each object
+pub record AreAllRows (k : Category) (size : ℕ → ℕ) (move : ℕ → ℕ → ℕ) (size' : ℕ → ℕ) (move' : ℕ → ℕ → ℕ) (all : List ElementRows) : Type 0 where
+  pub objects : length all ≡ k.objects
+  pub each : (c : ℕ) → c < k.objects → AreFunctionRows k size move size' move' c (rows_at all c)

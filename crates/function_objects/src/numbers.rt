@@ -3,19 +3,17 @@ ghost use Rattle.std.specs.Prelude.{◌≡◌, ◌++◌, ◌+◌, ◌*◌, ◌<�
 ghost use Rattle.std.specs.List.{range_with_len};
 ghost use Rattle.topos_model.specs.Laws.{IsInto};
 ghost use Rattle.place_closures.specs.Pairs.{AreStarts, pairs};
-ghost use Rattle.sealed_functors.specs.Rows.{rows_at};
+
 ghost use Rattle.sealed_types.specs.Sealed.{sizes_in, restrictions_in};
 ghost use Rattle.function_objects.specs.Parts.{IsPart};
 ghost use Rattle.function_objects.specs.Functions.{function_rows, under_row, AreClosed, ArePushed, AreFunctionRows};
 ghost use Rattle.function_objects.specs.Listed.{AreListed};
 
 use crate::listing::Listed;
-use crate::starts::place_starts;
 use fin_category::Cat;
 use functor_store::{FunctorId, FunctorStore};
-use sealed_functors::ElementRows;
 use std::alloc::Global;
-use topos_model::{Copied, NoMemory, Row};
+use topos_model::{NoMemory, Row};
 
 // Puts so many numbers of a row last, from the start on.
 fn push_block(row: &[u32], start: usize, count: u32, out: &mut Row<u32>) -> Result<(), NoMemory>
@@ -55,7 +53,7 @@ fn push_under(
 }
 
 // Puts the numbers of the rows under all arrows into c last, for the row number n.
-fn push_numbers(
+pub(crate) fn push_numbers(
     cat: &Cat,
     store: &FunctorStore,
     s: FunctorId,
