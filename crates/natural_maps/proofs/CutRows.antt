@@ -1,5 +1,5 @@
 -- Numbers cut into rows, one row more.
-use Rattle.std.proofs.Common.{◌≡◌, ℕ, zero, suc, ◌+◌, ◌<◌, ◌≤◌, List, [], ◌∷◌, ◌++◌, length, get_or, take, drop, refl, sym, ap, ◌∙◌, arith}
+use Rattle.std.proofs.Common.{◌≡◌, ℕ, zero, suc, ◌+◌, ◌<◌, ◌≤◌, List, [], ◌∷◌, ◌++◌, length, get_or, map, take, drop, refl, sym, ap, ◌∙◌, arith}
 use Rattle.natural_maps.specs.Places.{offset, cut}
 use Rattle.natural_maps.proofs.Offsets.{offset-apart}
 
@@ -22,3 +22,9 @@ cut-more (n ∷ sizes) values (suc i) low =
 
 pub piece_within : (sizes : List ℕ) (i : ℕ) → i < length sizes → offset sizes i + get_or sizes i 0 ≤ offset sizes (length sizes)
 piece_within sizes i low = offset-apart sizes i (length sizes) low low
+
+-- one row more
+pub mapped_more : {A B : Type 0} (f : List A → B) (xs : List (List A)) (i : ℕ) → i < length xs → map f (take i xs) ++ f (get_or xs i []) ∷ [] ≡ map f (take (i + 1) xs)
+mapped_more f [] i low = absurd (omega arith)
+mapped_more f (x ∷ xs) zero low = refl
+mapped_more f (x ∷ xs) (suc i) low = let e : suc i + 1 ≡ suc (i + 1) = omega arith in ap (λ l. f x ∷ l) (mapped_more f xs i (omega arith)) ∙ sym (ap (λ n. map f (take n (x ∷ xs))) e)

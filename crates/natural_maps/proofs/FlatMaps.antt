@@ -11,8 +11,9 @@ use Rattle.topos_model.specs.types.Types.{Presheaf}
 use Rattle.topos_model.specs.Laws.{size}
 use Rattle.topos_model.specs.presheaves.NaturalMaps.{choices, rows, all_components, is_natural_map, maps}
 use Rattle.natural_maps.specs.Places.{cut}
-use Rattle.natural_maps.specs.Search.{assignments, bounds_of, sizes_of, is_natural, under}
-use Rattle.natural_maps.proofs.AllMaps.{In-choices_from}
+use Rattle.natural_search.specs.Search.{assignments}
+use Rattle.natural_search.proofs.ListChoices.{In-choices_from}
+use Rattle.natural_maps.specs.Search.{bounds_of, sizes_of, is_natural}
 use Rattle.std.proofs.lemmas.Simd.{map-map}
 
 map_alike : {A : Type 0} (f : A → A) (xs : List A) → ((x : A) → f x ≡ x) → map f xs ≡ xs
@@ -112,8 +113,6 @@ all_components_cut k P Q =
     ∙ ap (λ l. map (cut l) (choices (joined (map (lists_at P Q) (range_with_len 0 k.objects))))) (lengths P Q (range_with_len 0 k.objects))
     ∙ ap (λ l. map (cut (sizes_of k P)) (choices l)) (joined_bounds P Q (range_with_len 0 k.objects))
 
-pub maps_cut : (k : Category) (P Q : Presheaf) → maps k P Q ≡ map (cut (sizes_of k P)) (under (is_natural k P Q) (bounds_of k P Q) [])
-unfolding maps under
-maps_cut k P Q =
-    ap (filter (is_natural_map k P Q)) (all_components_cut k P Q) ∙ filter_of_map (is_natural_map k P Q) (cut (sizes_of k P)) (assignments (bounds_of k P Q))
-    ∙ ap (λ l. map (cut (sizes_of k P)) (filter (is_natural k P Q) l)) (sym (map_alike (λ rest. rest) (assignments (bounds_of k P Q)) (λ rest. refl)))
+pub maps_cut : (k : Category) (P Q : Presheaf) → maps k P Q ≡ map (cut (sizes_of k P)) (filter (is_natural k P Q) (assignments (bounds_of k P Q)))
+unfolding maps
+maps_cut k P Q = ap (filter (is_natural_map k P Q)) (all_components_cut k P Q) ∙ filter_of_map (is_natural_map k P Q) (cut (sizes_of k P)) (assignments (bounds_of k P Q))

@@ -8,5 +8,3 @@ pub mod Search
 pub mod Squares
 pub mod Listed
 pub mod Tables
-pub mod Domains
-pub mod FreePlaces

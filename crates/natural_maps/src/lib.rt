@@ -2,21 +2,15 @@
 #![tactic(auto)]
 
 mod bounds;
-mod chains;
 mod components;
-mod domains;
 mod fault;
-mod free_places;
 mod images;
 mod laws;
-mod links;
 mod listing;
 mod made;
 mod map;
 mod naturality;
 mod places;
-mod preimages;
-mod residues;
 mod room;
 mod squares;
 

@@ -85,6 +85,13 @@ impl Functor {
         *self.along.get(f as usize).get(x as usize)
     }
 
+    /// The restrictions along all arrows, in order.
+    pub fn rows(&self) -> &[Row<u32>]
+        ensures { result.now ≡ self.now.along }
+    {
+        self.along.as_slice()
+    }
+
     /// The restrictions along f of the elements at its codomain, in order.
     pub fn row(&self, f: u32) -> &[u32]
         requires { f < length self.now.along }

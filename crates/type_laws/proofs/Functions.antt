@@ -34,7 +34,7 @@ module _ (s : Site) (values : ℕ → List Val) (restrict : ℕ → Val → Val)
   square l a g = same (restrict' g a.to) (at_place (compose k a.arrow g) (restrict g a.val) l)
 
   module _ (distinct : (d : ℕ) → Distinct (values d)) where
-    natural_tests : (c : ℕ) (l : List Assign) → In (assignments choices (places s values c)) l → is_natural s restrict restrict' l ≡ true → IsNaturalTable c l
+    pub natural_tests : (c : ℕ) (l : List Assign) → In (assignments choices (places s values c)) l → is_natural s restrict restrict' l ≡ true → IsNaturalTable c l
     unfolding is_natural
     natural_tests c l m h = record {
       member = m;
@@ -43,7 +43,7 @@ module _ (s : Site) (values : ℕ → List Val) (restrict : ℕ → Val → Val)
           same_equal _ _ (all_each (square l (row (at_entry l) e)) (into k (dom k e.arrow)) g (all_each _ l (row (at_entry l) e) h listed) (In-into k (dom k e.arrow) g j));
     }
 
-    natural_passes : (c : ℕ) (l : List Assign) → IsNaturalTable c l → is_natural s restrict restrict' l ≡ true
+    pub natural_passes : (c : ℕ) (l : List Assign) → IsNaturalTable c l → is_natural s restrict restrict' l ≡ true
     unfolding is_natural
     natural_passes c l h =
         each_all _ l (λ a i.

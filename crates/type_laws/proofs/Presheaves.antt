@@ -11,9 +11,10 @@ use Rattle.topos_model.specs.topologies.Cover.{Site}
 use Rattle.topos_model.specs.Laws.{IsCategory, IsFunctor, act, size}
 use Rattle.topos_model.specs.types.Types.{Presheaf, base_elements, base_along, two_elements, two_along, functor, elements, restr}
 use Rattle.topos_model.specs.types.Values.{second_of}
+use Rattle.topos_model.specs.statements.Needs.{parts}
 use Rattle.topos_model.proofs.ValueEquations.{number_of-El, first_of-Two, second_of-Two}
 use Rattle.type_laws.proofs.Selectors.{El-equal, Two-first, Two-second, Two-same}
-use Rattle.finite_lists.proofs.Lists.{In-map, In-map_from, In-flat_map, In-flat_map_from}
+use Rattle.finite_lists.proofs.Lists.{In-append_left, In-append_right, In-map, In-map_from, In-flat_map, In-flat_map_from}
 use Rattle.finite_lists.proofs.DistinctLists.{Distinct-map, Distinct-flat_map, Distinct-range, In-range, In-range_from}
 use Rattle.type_laws.proofs.Places.{IsPresheaf}
 use Rattle.type_laws.proofs.TruthValues.{omega_presheaf, Distinct-omega}
@@ -133,6 +134,23 @@ module _ (s : Site) (functors : List Presheaf) where
   Distinct-elements (Fun' a (only S end) b (only T end)) c =
       Distinct-fun s (elements s functors S) (restr s functors S) (elements s functors T) (restr s functors T) c (Distinct-elements T)
 
+  -- the same for a type by itself, of whose functors it is asked
+  pub type_presheaf : IsCategory s.category → (T : Ty) → ((n : ℕ) → In (parts T) (Base n) → IsPresheaf s.category (base_elements (functor s functors n)) (base_along (functor s functors n))) →
+      IsPresheaf s.category (elements s functors T) (restr s functors T)
+  unfolding elements parts
+  type_presheaf laws (Base n) named = named n (inl refl)
+  type_presheaf laws One named = one_presheaf s.category
+  type_presheaf laws Omega named = omega_presheaf s laws
+  type_presheaf laws (Two' a (only S end) b (only T end)) named =
+      two_presheaf (elements s functors S) (elements s functors T) (restr s functors S) (restr s functors T) s.category
+      (type_presheaf laws S (λ n i. named n (inr (In-append_left (parts S) (parts T) (Base n) i))))
+      (type_presheaf laws T (λ n i. named n (inr (In-append_right (parts S) (parts T) (Base n) i))))
+  type_presheaf laws (Pow' a (only T end)) named =
+      pow_presheaf s (elements s functors T) (restr s functors T) laws (type_presheaf laws T (λ n i. named n (inr i))) (Distinct-elements T)
+  type_presheaf laws (Fun' a (only S end) b (only T end)) named =
+      fun_presheaf s (elements s functors S) (restr s functors S) (elements s functors T) (restr s functors T) laws (Distinct-elements S)
+      (type_presheaf laws S (λ n i. named n (inr (In-append_left (parts S) (parts T) (Base n) i))))
+
   module _ (laws : IsCategory s.category) (lawful : All (IsFunctor s.category) functors) where
     functor_presheaf : (n : ℕ) → IsPresheaf s.category (base_elements (functor s functors n)) (base_along (functor s functors n))
     functor_presheaf n =
@@ -143,12 +161,4 @@ module _ (s : Site) (functors : List Presheaf) where
 
     -- restriction leads into the elements, along identities it is the identity, and along composites the composite
     pub types_presheaf : (T : Ty) → IsPresheaf s.category (elements s functors T) (restr s functors T)
-    unfolding elements
-    types_presheaf (Base n) = functor_presheaf n
-    types_presheaf One = one_presheaf s.category
-    types_presheaf Omega = omega_presheaf s laws
-    types_presheaf (Two' a (only S end) b (only T end)) =
-        two_presheaf (elements s functors S) (elements s functors T) (restr s functors S) (restr s functors T) s.category (types_presheaf S) (types_presheaf T)
-    types_presheaf (Pow' a (only T end)) = pow_presheaf s (elements s functors T) (restr s functors T) laws (types_presheaf T) (Distinct-elements T)
-    types_presheaf (Fun' a (only S end) b (only T end)) =
-        fun_presheaf s (elements s functors S) (restr s functors S) (elements s functors T) (restr s functors T) laws (Distinct-elements S) (types_presheaf S)
+    types_presheaf T = type_presheaf laws T (λ n i. functor_presheaf n)

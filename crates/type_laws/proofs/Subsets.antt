@@ -27,7 +27,7 @@ module _ (s : Site) (values : ℕ → List Val) (restrict : ℕ → Val → Val)
     pub closed : (e : Entry) (R : List ℕ) → In (places s values c) e → In (covers s (dom k e.arrow)) R →
         ((g : ℕ) → In R g → In l (moved s restrict e g)) → In l e
 
-  subset_tests : (c : ℕ) (l : List Entry) → In (sublists (places s values c)) l →
+  pub subset_tests : (c : ℕ) (l : List Entry) → In (sublists (places s values c)) l →
       (closed_below s restrict l && closed_under_covers s restrict (places s values c) l) ≡ true → IsClosedSubset c l
   unfolding closed_below closed_under_covers
   subset_tests c l m h =
@@ -40,7 +40,7 @@ module _ (s : Site) (values : ℕ → List Val) (restrict : ℕ → Val → Val)
             (some_any _ (covers s (dom k e.arrow)) R r (each_all _ R (λ g j. In_entries _ _ l (each g j)))));
       }
 
-  subset_passes : (c : ℕ) (l : List Entry) → IsClosedSubset c l →
+  pub subset_passes : (c : ℕ) (l : List Entry) → IsClosedSubset c l →
       (closed_below s restrict l && closed_under_covers s restrict (places s values c) l) ≡ true
   unfolding closed_below closed_under_covers
   subset_passes c l h =

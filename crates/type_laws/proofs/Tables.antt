@@ -34,11 +34,11 @@ equal_test e x h = subst (λ y. test e y ≡ true) h (and_from _ _ (eq-eqb e.arr
 abbrev mark : Entry → Val → Assign
 mark e v = record { arrow = e.arrow; val = e.val; to = v }
 
-at_here : (e x : Entry) (v : Val) (l : List Assign) → e ≡ x → at_entry (mark e v ∷ l) x ≡ v
+pub at_here : (e x : Entry) (v : Val) (l : List Assign) → e ≡ x → at_entry (mark e v ∷ l) x ≡ v
 unfolding at_place
 at_here e x v l h = cond-true _ v (at_entry l x) (equal_test e x h)
 
-at_later : (e x : Entry) (v : Val) (l : List Assign) → (e ≡ x → ⊥) → at_entry (mark e v ∷ l) x ≡ at_entry l x
+pub at_later : (e x : Entry) (v : Val) (l : List Assign) → (e ≡ x → ⊥) → at_entry (mark e v ∷ l) x ≡ at_entry l x
 unfolding at_place
 at_later e x v l h =
     elim (cases_Bool (test e x)) [

@@ -1,7 +1,7 @@
 use Rattle.std.proofs.Common.{ℕ, ◌+◌, ◌++◌, [], ◌∷◌, List, map, get_or, ap, sym, ◌∙◌, arith, append_assoc}
 use Rattle.std.specs.List.{range_with_len}
 use Rattle.std.proofs.lemmas.List.FromFn.{map-range_with_len_more}
-use Rattle.natural_maps.specs.declared.squares.Square.{Square}
+use Rattle.natural_search.specs.declared.squares.Square.{Square}
 use Rattle.natural_maps.proofs.squares.push_squares.Goals as goal
 
 pub loop-x-preserved : goal.loop-x-preserved

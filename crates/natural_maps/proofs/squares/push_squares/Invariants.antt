@@ -1,6 +1,6 @@
 use Rattle.std.proofs.Common.{◌≡◌, ◌+◌, ◌++◌, map, get_or}
 use Rattle.std.specs.List.{range_with_len}
-use Rattle.natural_maps.specs.declared.squares.Square.{Square}
+use Rattle.natural_search.specs.declared.squares.Square.{Square}
 use Rattle.natural_maps.proofs.squares.push_squares.Given as goal
 
 abbrev pub invariant-loop-x : goal.invariant-loop-x

@@ -3,7 +3,7 @@ use Rattle.std.specs.List.{range_with_len}
 use Rattle.topos_model.specs.categories.Category.{dom, cod}
 use Rattle.topos_model.specs.Laws.{act, size}
 use Rattle.natural_maps.specs.Places.{offset}
-use Rattle.natural_maps.specs.declared.squares.Square.{Square}
+use Rattle.natural_search.specs.declared.squares.Square.{Square}
 use Rattle.natural_maps.specs.Squares.{square_of, squares_along}
 use Rattle.natural_maps.proofs.Offsets.{offset-more}
 use Rattle.natural_maps.proofs.ListedImages.{offset_at}

@@ -1,8 +1,0 @@
-use Rattle.exponentials.proofs.SealedTypes.{sealed_restricted, sealed_asked}
-use Rattle.exponentials.proofs.laws.sealed_type_laws.Goals as goal
-
-pub returns-clause-restrict : goal.returns-clause-restrict
-returns-clause-restrict c = sealed_restricted
-
-pub returns-clause-asked : goal.returns-clause-asked
-returns-clause-asked c = sealed_asked

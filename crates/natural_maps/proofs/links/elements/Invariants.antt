@@ -1,6 +1,0 @@
-use Rattle.std.proofs.Common.{◌≡◌, map, take}
-use Rattle.natural_maps.specs.Squares.{element_of}
-use Rattle.natural_maps.proofs.links.elements.Given as goal
-
-abbrev pub invariant-loop-square : goal.invariant-loop-square
-invariant-loop-square l = l.places ≡ map element_of (take l.square-index l.squares)

@@ -1,6 +1,0 @@
-use Rattle.std.proofs.Common.{◌≡◌, map, take}
-use Rattle.natural_maps.specs.Squares.{restricted_of}
-use Rattle.natural_maps.proofs.links.restrictions.Given as goal
-
-abbrev pub invariant-loop-square : goal.invariant-loop-square
-invariant-loop-square l = l.places ≡ map restricted_of (take l.square-index l.squares)

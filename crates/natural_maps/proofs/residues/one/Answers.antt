@@ -1,5 +1,0 @@
-use Rattle.natural_maps.proofs.ResidueBits.{allows_one}
-use Rattle.natural_maps.proofs.residues.one.Goals as goal
-
-pub returns : goal.returns
-returns c = allows_one c.args.v

@@ -1,6 +1,0 @@
-use Rattle.std.proofs.Common.{◌≡◌, map, take}
-use Rattle.natural_maps.specs.Squares.{later_place}
-use Rattle.natural_maps.proofs.squares.later_places.Given as goal
-
-abbrev pub invariant-loop-square : goal.invariant-loop-square
-invariant-loop-square l = l.places ≡ map later_place (take l.square-index l.squares)

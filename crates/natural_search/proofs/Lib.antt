@@ -1,0 +1,15 @@
+pub mod ListChoices
+pub mod AssignedRows
+pub mod RowsSoFar
+pub mod JoinedRows
+pub mod Searches
+pub mod SearchSteps
+pub mod SearchMeasure
+pub mod ChainLinks
+pub mod SquareChains
+pub mod ResidueBits
+pub mod Narrowing
+pub mod PlaceSearch
+pub mod GuardedSearch
+pub mod FreeCounts
+pub mod RisingRows

@@ -1,0 +1,5 @@
+pub mod Squares
+pub mod Search
+pub mod Domains
+pub mod FreePlaces
+pub mod Rows

@@ -1,0 +1,18 @@
+//! The search for all rows of numbers, one at each place, that fit each other along a table of restrictions.
+#![tactic(auto)]
+
+mod chains;
+mod domains;
+mod free_places;
+mod links;
+mod order;
+mod preimages;
+mod residues;
+mod rows;
+mod search;
+mod squares;
+
+pub use preimages::Preimages;
+pub use rows::{FirstRows, FoundRows};
+pub use search::{all_rows, first_rows};
+pub use squares::Square;

@@ -1,0 +1,4 @@
+pub mod Order
+pub mod Pulled
+pub mod SubsetElements
+pub mod Rooms

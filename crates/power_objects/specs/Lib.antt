@@ -1,0 +1,2 @@
+pub mod SubsetRows
+pub mod BitOrder

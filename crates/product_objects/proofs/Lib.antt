@@ -1,0 +1,2 @@
+pub mod ProductElements
+pub mod OneElements
