@@ -5,3 +5,4 @@ pub mod Blanks
 pub mod Digits
 pub mod Runs
 pub mod Uniqueness
+pub mod PlainNames
