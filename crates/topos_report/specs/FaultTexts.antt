@@ -1,7 +1,5 @@
 -- The text of each fault, behind its number.
 use Rattle.std.specs.Prelude.{ℕ, Bool, true, false, List, [], ◌∷◌, ◌++◌, get_or, codes, decimal, Option, Some, None}
-use Rattle.topos_model.specs.declared.fault.Kind.{Kind}
-use Rattle.topos_model.specs.declared.fault.Kind.TheVariants as kind
 use Rattle.topos_model.specs.declared.fault.Fault.{Fault}
 use Rattle.topos_model.specs.declared.fault.Fault.TheVariants.{NotText, NotBuilt, BadToken, Syntax, TooMany, NameTwice, NameUnknown, CompositeMissing, CompositeTwice, CompositeEnds, NotAssociative, NotStable, NotTransitive, RestrictionMissing, NotTotal, NotFunctorial, MapNotTotal, NotNatural, NoElement, NoTuple, Expected, TypeTooLarge, NotASheaf, NotAFunction, NotAPower, NotAPair, WrongTopology, NotPlain, NotPresheaves, NotParallel, BadStep, NotSent, FunctorEnds, FunctorLaw}
 use Rattle.topos_model.specs.declared.doc.Doc.{Doc}
@@ -12,22 +10,7 @@ use Rattle.topos_report.specs.Names.{Naming, object_in, arrow_in, place_text, na
 use Rattle.topos_report.specs.Values.{sieve_text}
 use Rattle.topos_report.specs.TypeTexts.{type_text}
 use Rattle.topos_report.specs.Statements.{tested_maps, statement_at, naming_of, elements_of}
-use Rattle.topos_report.specs.Refusals.{refused}
-
--- what a limit counts
-unfoldable pub kind_text : Kind → List ℕ
-kind_text kind.Document = codes "document"
-kind_text kind.Name = codes "name"
-kind_text kind.Term = codes "term"
-kind_text kind.Statements = codes "statements"
-kind_text kind.Objects = codes "objects"
-kind_text kind.Arrows = codes "arrows"
-kind_text kind.Elements = codes "elements"
-kind_text kind.Topologies = codes "topologies"
-
--- a token and its text
-unfoldable pub token_text : ℕ → List ℕ → List ℕ
-token_text token text = codes "token " ++ decimal token ++ codes " " ++ text
+use Rattle.topos_report.specs.Refusals.{refused, kind_text, token_text}
 
 -- the name of a topology that has one, and a comma
 unfoldable pub topology_prefix : Option (List ℕ) → List ℕ

@@ -3,13 +3,30 @@ use Rattle.std.specs.Prelude.{ℕ, ◌-◌, List, [], ◌∷◌, ◌++◌, Optio
 use Rattle.std.specs.List.{slice_get}
 use Rattle.topos_model.specs.declared.stmt.Stmt.{Stmt}
 use Rattle.topos_model.specs.declared.stmt.Stmt.TheVariants.{Presheaf, Map}
+use Rattle.topos_model.specs.declared.fault.Kind.{Kind}
+use Rattle.topos_model.specs.declared.fault.Kind.TheVariants as kind
 use Rattle.topos_model.specs.declared.fault.Fault.{Fault}
-use Rattle.topos_model.specs.declared.fault.Fault.TheVariants.{NotBuilt, CompositeMissing, CompositeTwice, CompositeEnds, NotAssociative, RestrictionMissing, NotTotal, NotFunctorial, MapNotTotal, NotNatural, NoElement, NotParallel}
+use Rattle.topos_model.specs.declared.fault.Fault.TheVariants.{NotText, NotBuilt, BadToken, Syntax, TooMany, NameTwice, NameUnknown, CompositeMissing, CompositeTwice, CompositeEnds, NotAssociative, RestrictionMissing, NotTotal, NotFunctorial, MapNotTotal, NotNatural, NoElement, NotParallel}
 use Rattle.topos_model.specs.declared.doc.Doc.{Doc}
 use Rattle.topos_report.specs.Lists.{comma_separated}
 use Rattle.topos_report.specs.Names.{arrow_name, element_name, object_name, place_text, map_name}
 use Rattle.topos_report.specs.Values.{ends_of}
 use Rattle.topos_report.specs.Statements.{tested_maps}
+
+-- what a limit counts
+unfoldable pub kind_text : Kind → List ℕ
+kind_text kind.Document = codes "document"
+kind_text kind.Name = codes "name"
+kind_text kind.Term = codes "term"
+kind_text kind.Statements = codes "statements"
+kind_text kind.Objects = codes "objects"
+kind_text kind.Arrows = codes "arrows"
+kind_text kind.Elements = codes "elements"
+kind_text kind.Topologies = codes "topologies"
+
+-- a token and its text
+unfoldable pub token_text : ℕ → List ℕ → List ℕ
+token_text token text = codes "token " ++ decimal token ++ codes " " ++ text
 
 -- the functor whose elements the faults of a statement speak of: the one that it declares, or the domain of its map
 unfoldable pub functor_of : Option Stmt → Option ℕ
@@ -51,7 +68,13 @@ module _ (doc : Doc) where
 
   -- other refusals come with their statements, and have no line yet
   unfoldable pub refusal_line : Option ℕ → Fault → List ℕ
+  refusal_line at (NotText n) = refused at (codes "10 not text: byte " ++ decimal n)
   refusal_line at NotBuilt = refused at (codes "11 not built")
+  refusal_line at (BadToken n) = refused at (codes "12 bad token: byte " ++ decimal n)
+  refusal_line at (Syntax n) = refused at (codes "13 syntax: token " ++ decimal n)
+  refusal_line at (TooMany kind limit) = refused at (codes "14 too many: " ++ kind_text kind ++ codes " " ++ decimal limit)
+  refusal_line at (NameTwice token text) = refused at (codes "20 name twice: " ++ token_text token text)
+  refusal_line at (NameUnknown token text) = refused at (codes "21 name unknown: " ++ token_text token text)
   refusal_line at (CompositeMissing g f) = refused at (codes "30 composite missing: " ++ comma_separated (arrow_name doc) (g ∷ f ∷ []))
   refusal_line at (CompositeTwice g f) = refused at (codes "31 composite twice: " ++ comma_separated (arrow_name doc) (g ∷ f ∷ []))
   refusal_line at (CompositeEnds g f h) = refused at (codes "32 composite ends: " ++ comma_separated (arrow_name doc) (g ∷ f ∷ h ∷ []))

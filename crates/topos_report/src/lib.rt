@@ -12,6 +12,7 @@ mod refusals;
 mod stages;
 mod statements;
 mod tables;
+mod text_refusals;
 mod values;
 
 use crate::answers::{push_answers, push_end};

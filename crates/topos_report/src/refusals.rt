@@ -9,6 +9,9 @@ use crate::bytes::{push_bytes, push_number};
 use crate::names::{ends, push_arrow, push_element, push_object};
 use crate::statements::push_tested;
 use crate::tables::push_place;
+use crate::text_refusals::{
+    push_bad_token, push_name_twice, push_name_unknown, push_not_text, push_syntax, push_too_many,
+};
 use crate::values::push_arrows;
 use topos_model::{Doc, Fault, NoMemory, Stmt};
 
@@ -66,7 +69,7 @@ fn push_element_of(
     }
 }
 
-fn push_refused(out: &mut Vec<u8>, at: Option<u32>, text: &[u8]) -> Result<(), NoMemory>
+pub fn push_refused(out: &mut Vec<u8>, at: Option<u32>, text: &[u8]) -> Result<(), NoMemory>
     ensures { OnOk result (out.new.items ≡ out.old.items ++ (number_prefix at ++ codes "refused " ++ text.now)) }
 {
     push_number_prefix(out, at)?;
@@ -301,7 +304,17 @@ pub fn push_refusal(
     ensures { OnOk result (out.new.items ≡ out.old.items ++ refusal_line doc.now at fault.now) }
 {
     match fault {
+        Fault::NotText(byte) => push_not_text(out, doc, at, *byte),
         Fault::NotBuilt => push_not_built(out, doc, at),
+        Fault::BadToken(byte) => push_bad_token(out, doc, at, *byte),
+        Fault::Syntax(token) => push_syntax(out, doc, at, *token),
+        Fault::TooMany { kind, limit } => push_too_many(out, doc, at, *kind, *limit),
+        Fault::NameTwice { token, text } => {
+            push_name_twice(out, doc, at, *token, text.as_slice())
+        }
+        Fault::NameUnknown { token, text } => {
+            push_name_unknown(out, doc, at, *token, text.as_slice())
+        }
         Fault::CompositeMissing { g, f } => push_composite_missing(out, doc, at, *g, *f),
         Fault::CompositeTwice { g, f } => push_composite_twice(out, doc, at, *g, *f),
         Fault::CompositeEnds { g, f, h } => push_composite_ends(out, doc, at, *g, *f, *h),

@@ -6,3 +6,4 @@ pub mod Digits
 pub mod Runs
 pub mod Uniqueness
 pub mod Existence
+pub mod PlainNames

@@ -1,5 +1,6 @@
 -- The front of a text, in characters.
-use Rattle.std.specs.Prelude.{◌≡◌, ◌⊎◌, ◌<◌, ℕ, true, false, Bool, List, [], ◌∷◌, ◌++◌, length}
+use Rattle.std.specs.Prelude.{◌≡◌, ◌⊎◌, ◌<◌, ◌||◌, ◌==◌, ℕ, true, false, Bool, List, [], ◌∷◌, ◌++◌, length}
+use Rattle.std.specs.Char.{is_ascii_alphanumeric}
 use Rattle.std.specs.List.{list_all}
 use Rattle.topos_text.specs.Spelling.{continues_name, is_digit, are_digits, number_of}
 use Rattle.topos_text.specs.Tokens.{Token}
@@ -32,6 +33,10 @@ pub record NoBlank (text : List ℕ) : Type 0 where
 abbrev pub EndsName : List ℕ → Type 0
 EndsName [] = Unit {0}
 EndsName (c ∷ cs) = continues_name c ≡ false
+
+-- the ASCII characters with which a name goes on
+abbrev pub is_plain : ℕ → Bool
+is_plain b = (is_ascii_alphanumeric b || (b == 95)) || (b == 39)
 
 -- the text does not go on with digits
 abbrev pub EndsDigits : List ℕ → Type 0

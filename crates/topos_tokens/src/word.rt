@@ -1,12 +1,45 @@
 // Names and reserved words.
-ghost use Rattle.std.specs.Prelude.{◌≡◌, ◌∷◌, ◌++◌, ◌<◌, ◌≤◌, ℕ, List, length, map, true};
+ghost use Rattle.std.specs.Prelude.{◌≡◌, ◌∷◌, ◌++◌, ◌<◌, ◌≤◌, ℕ, List, length, map, take, true};
+ghost use Rattle.std.specs.List.{list_all};
 ghost use Rattle.std.specs.Str.{chars, IsUtf8, encode_utf8_all};
 ghost use Rattle.topos_text.specs.Spelling.{word_of, continues_name, entry_of, starts_name};
 ghost use Rattle.topos_text.specs.Tokens.{token_of};
-ghost use Rattle.topos_tokens.specs.Fronts.{Passed, EndsName, IsFront};
+ghost use Rattle.topos_tokens.specs.Fronts.{Passed, EndsName, IsFront, is_plain};
 
 use crate::character::{bytes_before, is_continue, next_char};
 use topos_text::{Token, Word, Written};
+
+/// Whether the byte is an ASCII character with which a name goes on.
+fn is_plain(byte: u8) -> bool
+    ensures { result ≡ is_plain byte }
+{
+    byte.is_ascii_alphanumeric() | (byte == b'_') | (byte == b'\'')
+}
+
+/// How many such bytes stand in front.
+#[tactic(auto, using(std::proofs::lemmas::List::Folds::list_all_more))]
+fn plain_len(bytes: &[u8]) -> usize
+    ensures within { result ≤ length bytes.now }
+    ensures plain { list_all is_plain (take result bytes.now) ≡ true }
+{
+    let mut len = 0;
+    for byte in bytes {
+        if !is_plain(*byte) {
+            break;
+        }
+        len += 1;
+    }
+    len
+}
+
+/// The text behind the ASCII characters with which a name goes on.
+fn after_plain(text: &str) -> &str
+    ensures passed { Passed continues_name (chars text.now) (chars result.now) }
+    ensures utf8 { IsUtf8 result.now }
+{
+    let len = plain_len(text.as_bytes());
+    &text[len..]
+}
 
 /// The text behind the characters with which a name goes on.
 fn after_name(text: &str) -> &str
@@ -14,7 +47,7 @@ fn after_name(text: &str) -> &str
     ensures ends { EndsName (chars result.now) }
     ensures utf8 { IsUtf8 result.now }
 {
-    let mut rest = text;
+    let mut rest = after_plain(text);
     while let Some((c, behind)) = next_char(rest) {
         if !is_continue(c) {
             return rest;

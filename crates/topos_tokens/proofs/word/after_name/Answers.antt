@@ -1,11 +1,11 @@
 use Rattle.std.proofs.Common.{sym, ◌∙◌}
 use Rattle.std.specs.Str.{chars}
 use Rattle.topos_text.specs.Spelling.{continues_name}
-use Rattle.topos_tokens.proofs.Characters.{passed_none, passed_more}
+use Rattle.topos_tokens.proofs.Characters.{passed_more}
 use Rattle.topos_tokens.proofs.word.after_name.Goals as goal
 
 pub loop-c-init : goal.loop-c-init
-loop-c-init c = record { passed = passed_none continues_name (chars c.args.text.now); utf8 = c.utf8.text }
+loop-c-init c = record { passed = c.after_plain-rest.ensures.passed; utf8 = c.after_plain-rest.ensures.utf8 }
 
 pub loop-c-preserved : goal.loop-c-preserved
 loop-c-preserved c = record {
