@@ -94,16 +94,7 @@ pub(crate) fn all_element_rows(
         Some(listed) => {
             let mut all = Row::new(alloc);
             for c in 0..cat.objects() {
-                all.push(element_rows(
-                    alloc,
-                    cat,
-                    store,
-                    s,
-                    t,
-                    room,
-                    listed.as_slice(),
-                    c,
-                )?)?;
+                all.push(element_rows(alloc, cat, store, s, t, room, listed.as_slice(), c)?)?;
             }
             Ok(Some(all))
         }

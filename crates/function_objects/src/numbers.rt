@@ -3,7 +3,6 @@ ghost use Rattle.std.specs.Prelude.{◌≡◌, ◌++◌, ◌+◌, ◌*◌, ◌<�
 ghost use Rattle.std.specs.List.{range_with_len};
 ghost use Rattle.topos_model.specs.Laws.{IsInto};
 ghost use Rattle.place_closures.specs.Pairs.{AreStarts, pairs};
-
 ghost use Rattle.sealed_types.specs.Sealed.{sizes_in, restrictions_in};
 ghost use Rattle.function_objects.specs.Parts.{IsPart};
 ghost use Rattle.function_objects.specs.Functions.{function_rows, under_row, AreClosed, ArePushed, AreFunctionRows};

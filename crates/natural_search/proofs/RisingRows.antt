@@ -58,7 +58,7 @@ module _ (all : List (List ℕ)) (rise : Rising NumbersBelow all) (row : List �
     | inr h ↦ absurd (elim (cases_lt n m) [
       | inl before ↦ apart (get_or all m []) row below (subst (λ r. NumbersBelow r (get_or all m [])) is (rising_at all n m rise before within))
       | inr same ↦ (let e : m ≡ n = omega arith in let s : get_or all m [] ≡ row = ap (λ i. get_or all i []) e ∙ is in
-        apart row row (subst (λ r. NumbersBelow r row) s below) (subst (λ r. NumbersBelow r row) s below))
+          apart row row (subst (λ r. NumbersBelow r row) s below) (subst (λ r. NumbersBelow r row) s below))
     ])
   ]
 
@@ -69,7 +69,7 @@ module _ (all : List (List ℕ)) (rise : Rising NumbersBelow all) (row : List �
     | inr h ↦ absurd (elim (cases_lt m n) [
       | inl before ↦ apart row (get_or all m []) below (subst (λ r. NumbersBelow (get_or all m []) r) is (rising_at all m n rise before low))
       | inr same ↦ (let e : m ≡ n = omega arith in let s : get_or all m [] ≡ row = ap (λ i. get_or all i []) e ∙ is in
-        apart row row (subst (λ r. NumbersBelow row r) s below) (subst (λ r. NumbersBelow row r) s below))
+          apart row row (subst (λ r. NumbersBelow row r) s below) (subst (λ r. NumbersBelow row r) s below))
     ])
   ]
 

@@ -19,7 +19,7 @@ use Rattle.topos_model.specs.topologies.LeastCovers.{is_among_covers, least}
 use Rattle.topos_model.specs.topologies.TopologyFaults.{listed_sieves, least_twice, stability_fault, intersection_fault, least_twice_fault, topology_fault}
 use Rattle.topos_model.specs.topologies.Sheaves.{element_at, agrees, matching_families, amalgamations, not_one, sheaf_fault}
 use Rattle.topos_model.proofs.ArrowsInto.{In-into, In-into_from}
-use Rattle.natural_maps.proofs.Searches.{none_kept}
+use Rattle.natural_search.proofs.Searches.{none_kept}
 
 -- a test that each member passes keeps the list
 filter_whole : {A : Type 0} (p : A → Bool) (xs : List A) → ((x : A) → In xs x → p x ≡ true) → filter p xs ≡ xs
