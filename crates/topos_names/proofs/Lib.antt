@@ -14,3 +14,4 @@ pub mod PresheafParts
 pub mod StatementEquations
 pub mod Turns
 pub mod TopologyTurns
+pub mod DocumentExits

@@ -5,3 +5,4 @@ pub mod Stages
 pub mod Categories
 pub mod Operands
 pub mod Parts
+pub mod DocumentParts

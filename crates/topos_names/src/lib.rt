@@ -5,7 +5,7 @@ mod categories;
 mod context;
 mod cover;
 mod derivation;
-mod document;
+mod in_turn;
 mod limit;
 mod made;
 mod mappings;
@@ -25,5 +25,7 @@ mod terms;
 mod topologies;
 mod types;
 mod variables;
+mod whole;
 
 pub use stop::NameStop;
+pub use whole::document;

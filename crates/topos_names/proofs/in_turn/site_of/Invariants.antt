@@ -4,7 +4,7 @@ use Rattle.topos_text.specs.SiteNames.{site_statement}
 use Rattle.topos_text.specs.Views as view
 use Rattle.topos_names.specs.Spaces.{space_of, limits}
 use Rattle.topos_names.proofs.Turns.{turned}
-use Rattle.topos_names.proofs.document.site_of.Given as goal
+use Rattle.topos_names.proofs.in_turn.site_of.Given as goal
 
 abbrev pub invariant-loop-statement : goal.invariant-loop-statement
 invariant-loop-statement l = record {

@@ -4,7 +4,7 @@ use Rattle.topos_text.specs.SiteNames.{site_statement, empty_space}
 use Rattle.topos_text.specs.Views as view
 use Rattle.topos_names.specs.Spaces.{space_of, limits}
 use Rattle.topos_names.proofs.Turns.{turned, turned-begins, turned-goes_on, turned-stops, turned-over, turned-ends, few_statements}
-use Rattle.topos_names.proofs.document.site_of.Goals as goal
+use Rattle.topos_names.proofs.in_turn.site_of.Goals as goal
 
 pub loop-statement-init : goal.loop-statement-init
 loop-statement-init c = record {

@@ -4,7 +4,7 @@ use Rattle.topos_text.specs.Resolving as spec
 use Rattle.topos_text.specs.Views as view
 use Rattle.topos_names.specs.Spaces.{limits}
 use Rattle.topos_names.proofs.Turns.{turned, turned-begins, turned-goes_on, turned-stops, turned-over, turned-ends, statement_stops, statement_taken, few_statements}
-use Rattle.topos_names.proofs.document.statements_of.Goals as goal
+use Rattle.topos_names.proofs.in_turn.statements_of.Goals as goal
 
 pub loop-tree-init : goal.loop-tree-init
 loop-tree-init c = record {

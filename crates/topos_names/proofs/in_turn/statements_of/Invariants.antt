@@ -3,7 +3,7 @@ use Rattle.topos_text.specs.Resolving as spec
 use Rattle.topos_text.specs.Views as view
 use Rattle.topos_names.specs.Spaces.{limits}
 use Rattle.topos_names.proofs.Turns.{turned}
-use Rattle.topos_names.proofs.document.statements_of.Given as goal
+use Rattle.topos_names.proofs.in_turn.statements_of.Given as goal
 
 abbrev pub invariant-loop-tree : goal.invariant-loop-tree
 invariant-loop-tree l = record {
