@@ -1,14 +1,14 @@
 -- From what was taken from a source to the report of its text.
-use Rattle.std.proofs.Common.{◌≡◌, ℕ, ◌+◌, ◌<◌, ◌≤◌, List, ◌++◌, length, drop, Option, None, Some, IfSome, arith, ap, inl, inr, sym, ◌∙◌, append-nil, length-append}
+use Rattle.std.proofs.Common.{◌≡◌, ℕ, ◌+◌, ◌<◌, ◌≤◌, List, ◌++◌, length, drop, Option, None, Some, IfSome, arith, ap, inr, sym, subst, ◌∙◌, append-nil, length-append}
 use Rattle.std.proofs.lemmas.List.{drop_all}
 use Rattle.std.proofs.Math.Seq.{drop-append_seam}
 use Rattle.std.specs.Io.KnownBytes.{Consumes, IsAtEnd}
 use Rattle.topos_program.specs.declared.status.Status.{Status}
-use Rattle.topos_program.specs.Outcome.{limit, IsReadReport, IsTextRefusal, Reports}
+use Rattle.topos_program.specs.Outcome.{limit, IsReportOf, IsTextRefusal, Reports}
 
 -- a text that was read to its end
 pub whole_reports : (a b : Option (List ℕ)) (bytes written : List ℕ) (ended : Status) → Consumes a b bytes → IsAtEnd b → length bytes ≤ limit
-    → IsReadReport written ended → IfSome a (λ text. Reports text written ended b)
+    → IsReportOf bytes written ended → IfSome a (λ text. Reports text written ended b)
 whole_reports None b bytes written ended taken at_end short report = tt
 whole_reports (Some text) None bytes written ended taken at_end short report = absurd taken
 whole_reports (Some text) (Some rest) bytes written ended taken at_end short report =
@@ -17,13 +17,13 @@ whole_reports (Some text) (Some rest) bytes written ended taken at_end short rep
     let fits : length text ≤ limit = omega (arith, ap length same, short) in
     let within : length text ≤ limit + 1 = omega (arith, fits) in
     record {
-      report_is = inl (fits, report);
+      report_is = subst (λ l. IsReportOf l written ended) (sym same) report;
       read_out = ap Some (at_end ∙ sym (drop_all (limit + 1) text within));
     }
 
 -- a text of which one byte past the limit was taken
 pub beyond_reports : (a b : Option (List ℕ)) (bytes written : List ℕ) (ended : Status) → Consumes a b bytes → length bytes ≡ limit + 1
-    → IsTextRefusal written ended → IfSome a (λ text. Reports text written ended b)
+    → ((text : List ℕ) → limit < length text → IsTextRefusal text written ended) → IfSome a (λ text. Reports text written ended b)
 beyond_reports None b bytes written ended taken long refusal = tt
 beyond_reports (Some text) None bytes written ended taken long refusal = absurd taken
 beyond_reports (Some text) (Some rest) bytes written ended taken long refusal =
@@ -32,6 +32,6 @@ beyond_reports (Some text) (Some rest) bytes written ended taken long refusal =
     let past : limit < length text = omega (arith, size, long) in
     let left : drop (limit + 1) text ≡ rest = ap (λ n. drop n text) (sym long) ∙ ap (drop (length bytes)) joined ∙ drop-append_seam bytes rest in
     record {
-      report_is = inr (past, refusal);
+      report_is = inr (refusal text past);
       read_out = ap Some (sym left);
     }

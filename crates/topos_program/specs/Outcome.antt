@@ -6,8 +6,9 @@ use Rattle.topos_model.specs.declared.doc.Doc.{Doc}
 use Rattle.topos_model.specs.declared.answer.Answer.{Answer}
 use Rattle.topos_model.specs.declared.answer.End.{End}
 use Rattle.topos_model.specs.declared.answer.End.TheVariants.{Refused}
-use Rattle.topos_model.specs.declared.fault.Fault.TheVariants.{NotBuilt}
+use Rattle.topos_model.specs.declared.fault.Fault.{Fault}
 use Rattle.topos_model.specs.statements.StagedRun.{StagedRunOf}
+use Rattle.topos_text.specs.TextFaults.{SpellsWithin, TextFault}
 use Rattle.topos_report.specs.EmptyDocument.{empty_document}
 use Rattle.topos_report.specs.Report.{report}
 use Rattle.topos_program.specs.declared.status.Status.{Status}
@@ -22,28 +23,26 @@ limit = 1048576
 abbrev pub budget : ℕ
 budget = 4000000
 
--- the report of the answers of a document, which stand in the run relation to it
-pub record IsDocumentReport (written : List ℕ) (ended : Status) : Type 0 where
+-- The report of the answers of the document that the text spells, which stand in the run relation to it.
+pub record IsDocumentReport (text written : List ℕ) (ended : Status) : Type 0 where
   pub doc : Doc
+  pub spells : SpellsWithin text doc
   pub answers : List Answer
   pub end : End
   pub runs : StagedRunOf doc budget answers end
   pub written_is : written ≡ report doc answers end
   pub status_is : ended ≡ status_of end
 
--- the report of a text that is refused as a whole: it speaks of no document
-pub record IsTextRefusal (written : List ℕ) (ended : Status) : Type 0 where
-  pub written_is : written ≡ report empty_document [] (Refused None NotBuilt)
+-- The report of a text that is refused for its first fault: it speaks of no document.
+pub record IsTextRefusal (text written : List ℕ) (ended : Status) : Type 0 where
+  pub fault : Fault
+  pub is_fault : TextFault text fault
+  pub written_is : written ≡ report empty_document [] (Refused None fault)
   pub status_is : ended ≡ status.Refused
 
--- the report of a text that is not past the limit
-abbrev pub IsReadReport : List ℕ → Status → Type 0
-IsReadReport written ended = IsDocumentReport written ended ⊎ IsTextRefusal written ended
-
--- a text past the limit is refused; any other one is the text of a document, or refused
+-- a text is the text of a document, or refused
 abbrev pub IsReportOf : List ℕ → List ℕ → Status → Type 0
-IsReportOf text written ended =
-    ((length text ≤ limit) × IsReadReport written ended) ⊎ ((limit < length text) × IsTextRefusal written ended)
+IsReportOf text written ended = IsDocumentReport text written ended ⊎ IsTextRefusal text written ended
 
 -- the source was read to its end, or one byte past the limit
 abbrev pub IsReadOut : List ℕ → Option (List ℕ) → Type 0

@@ -1,12 +1,13 @@
 // From a text to its report.
-ghost use Rattle.std.specs.Prelude.{◌≡◌, ◌≤◌, [], ◌∷◌, length, IfOk};
+ghost use Rattle.std.specs.Prelude.{◌≡◌, ◌<◌, ℕ, List, [], ◌∷◌, length, IfOk};
 ghost use Rattle.topos_report.specs.EmptyDocument.{no_category, only_topology, empty_document};
-ghost use Rattle.topos_program.specs.Outcome.{limit, IsDocumentReport, IsTextRefusal, IsReadReport};
+ghost use Rattle.topos_text.specs.TextFaults.{SpellsWithin, TextFault};
+ghost use Rattle.topos_program.specs.Outcome.{IsDocumentReport, IsTextRefusal, IsReportOf, limit};
 ghost use Rattle.topos_program.specs.Status.{IsWithoutVerdict};
 
 use crate::status::Status;
 use std::alloc::Global;
-use topos_model::{Doc, End, Fault, NoMemory, RawCat, Row, TopDecl};
+use topos_model::{Doc, End, Fault, Kind, NoMemory, RawCat, Row, TopDecl};
 use topos_reader::{ReadFault, read};
 use topos_report::report_bytes;
 use topos_session::run_document;
@@ -67,16 +68,13 @@ fn empty_document(alloc: Global) -> Result<Doc, NoMemory>
     })
 }
 
-/// The report of a text that is refused as a whole.
-pub fn refusal(alloc: Global) -> Result<Report, NoMemory>
-    ensures report { IfOk result (λ report. IsTextRefusal report.text.items report.status) }
+/// The report of a text that is refused for its first fault.
+pub fn refusal(alloc: Global, fault: Fault) -> Result<Report, NoMemory>
+    ensures report { IfOk result (λ report. (text : List ℕ) → TextFault text fault → IsTextRefusal text report.text.items report.status) }
     ensures status { IfOk result (λ report. IsWithoutVerdict report.status) }
 {
     let doc = empty_document(alloc)?;
-    let end = End::Refused {
-        at: None,
-        fault: Fault::NotBuilt,
-    };
+    let end = End::Refused { at: None, fault };
     let text = report_bytes(alloc, &doc, &[], &end)?;
     Ok(Report {
         text,
@@ -84,9 +82,23 @@ pub fn refusal(alloc: Global) -> Result<Report, NoMemory>
     })
 }
 
+/// The report of a text that is too long.
+pub fn too_long(alloc: Global) -> Result<Report, NoMemory>
+    ensures report { IfOk result (λ report. (text : List ℕ) → limit < length text → IsTextRefusal text report.text.items report.status) }
+    ensures status { IfOk result (λ report. IsWithoutVerdict report.status) }
+{
+    refusal(
+        alloc,
+        Fault::TooMany {
+            kind: Kind::Document,
+            limit: 1_048_576,
+        },
+    )
+}
+
 /// The report of a document.
 fn document_report(alloc: Global, doc: Doc) -> Result<Report, NoMemory>
-    ensures report { IfOk result (λ report. IsDocumentReport report.text.items report.status) }
+    ensures report { IfOk result (λ report. (text : List ℕ) → SpellsWithin text doc → IsDocumentReport text report.text.items report.status) }
     ensures status { IfOk result (λ report. IsWithoutVerdict report.status) }
 {
     let run = run_document(alloc, doc, BUDGET)?;
@@ -97,15 +109,14 @@ fn document_report(alloc: Global, doc: Doc) -> Result<Report, NoMemory>
     })
 }
 
-/// The report of a text that is not past the limit.
+/// The report of a text.
 pub fn answer(alloc: Global, text: &[u8]) -> Result<Report, NoMemory>
-    requires { length text.now ≤ limit }
-    ensures report { IfOk result (λ report. IsReadReport report.text.items report.status) }
+    ensures report { IfOk result (λ report. IsReportOf text.now report.text.items report.status) }
     ensures status { IfOk result (λ report. IsWithoutVerdict report.status) }
 {
     match read(alloc, text) {
         Ok(doc) => document_report(alloc, doc),
-        Err(ReadFault::NotBuilt) => refusal(alloc),
+        Err(ReadFault::Refused(fault)) => refusal(alloc, fault),
         Err(ReadFault::NoMemory) => Err(NoMemory),
     }
 }

@@ -7,7 +7,7 @@ ghost use Rattle.topos_program.specs.Outcome.{Reports, WritesReport, WritesPart}
 ghost use Rattle.topos_program.specs.Status.{IsReported, IsWithoutVerdict};
 ghost use Rattle.topos_program.specs.Words.{Accepts};
 
-use crate::report::{Report, answer, refusal};
+use crate::report::{Report, answer, too_long};
 use crate::status::Status;
 use std::alloc::Global;
 use topos_io::sink::{Fin, Sink, Wrote, write_all};
@@ -51,7 +51,7 @@ fn report_of<S: Source>(alloc: Global, src: &mut S) -> Result<Report, Stop>
 {
     match read_all(alloc, src, LIMIT) {
         Ok(text) => Ok(answer(alloc, &text)?),
-        Err(ReadEnd::TooLong) => Ok(refusal(alloc)?),
+        Err(ReadEnd::TooLong) => Ok(too_long(alloc)?),
         Err(ReadEnd::Fault) => Err(Stop::Fault),
         Err(ReadEnd::NoMemory) => Err(Stop::NoMemory),
     }

@@ -1,6 +1,8 @@
 // Whole runs, over a source and a sink in memory.
 ghost use Rattle.std.specs.Prelude.{◌<◌};
 
+mod texts;
+
 use crate::run::run;
 use crate::status::Status;
 use std::alloc::Global;
@@ -9,9 +11,9 @@ use std::test::Fail;
 use topos_io::memory::{MemSink, MemSource};
 use topos_model::{Boxed, Copied, NoMemory, Ty};
 
-const WORDS: [&str; 2] = ["topos", "run"];
+pub const WORDS: [&str; 2] = ["topos", "run"];
 
-const GRAPH: &str =
+pub const GRAPH: &str =
     "object V, E; arrow s, t : V -> E; presheaf G { at V : p, q; at E : e, f, l; along s : e -> p, f -> p, l -> q; along t : e -> q, f -> q, l -> p; }; show { x : G, y : G | x = y }; show { x : G, y : G | x = y => false };";
 
 const GRAPH_REPORT: &str =
@@ -117,9 +119,9 @@ const MAPS: [(&str, &str, Status); 8] = [
 
 /// How the status came out, what the sink holds and what the source has left.
 #[derive(Drop)]
-struct Ran {
-    status: Status,
-    held: Vec<u8>,
+pub struct Ran {
+    pub status: Status,
+    pub held: Vec<u8>,
     left: usize,
 }
 
@@ -139,7 +141,7 @@ fn run_over(
 }
 
 /// A run on a text where nothing fails.
-fn run_on(alloc: Global, words: &[&str], text: &[u8]) -> Result<Ran, Fail> {
+pub fn run_on(alloc: Global, words: &[&str], text: &[u8]) -> Result<Ran, Fail> {
     let mut src = MemSource::new(text.to_vec(alloc)?, 4096, Vec::new(alloc));
     let mut out = MemSink::new(alloc, 4096, 16, Vec::new(alloc))?;
     run_over(alloc, words, &mut src, &mut out)
@@ -155,17 +157,8 @@ fn graph_into(alloc: Global, capacity: usize, chunk: usize, fail: &[u64]) -> Res
     run_over(alloc, &WORDS, &mut src, &mut out)
 }
 
-/// A declaration of one object, and spaces up to this length.
-fn padded(alloc: Global, length: usize) -> Result<Vec<u8>, Fail> {
-    let mut text = b"object U;".to_vec(alloc)?;
-    for _ in text.len()..length {
-        text.push(b' ')?;
-    }
-    Ok(text)
-}
-
 /// Checks that a document has this report, that the run has this status, and that the whole text is read.
-fn has_report(
+pub fn has_report(
     rt: &(impl Abort + AllocGlobal),
     text: &str,
     report: &str,
@@ -203,37 +196,6 @@ fn maps_and_constructions(rt: HostRuntime) -> Result<(), Fail> {
     for (text, report, status) in MAPS {
         has_report(&rt, text, report, status)?;
     }
-    Ok(())
-}
-
-#[test]
-fn texts_of_another_form(rt: HostRuntime) -> Result<(), Fail> {
-    for text in [
-        b"\xff".as_slice(),
-        b"object U".as_slice(),
-        b"object U; valid | true;".as_slice(),
-    ] {
-        let ran = run_on(rt.alloc(), &WORDS, text)?;
-        assert_eq!(rt; ran.status, Status::Refused, "{text:?}");
-        assert_eq!(rt;
-            ran.held.as_slice(),
-            b"refused 11 not built\n".as_slice(),
-            "{text:?}"
-        );
-    }
-    Ok(())
-}
-
-#[test]
-fn long_texts(rt: HostRuntime) -> Result<(), Fail> {
-    let text = padded(rt.alloc(), 1_048_576)?;
-    let ran = run_on(rt.alloc(), &WORDS, &text)?;
-    assert_eq!(rt; ran.status, Status::Done);
-    assert_eq!(rt; ran.held.as_slice(), b"".as_slice());
-    let text = padded(rt.alloc(), 1_048_577)?;
-    let ran = run_on(rt.alloc(), &WORDS, &text)?;
-    assert_eq!(rt; ran.status, Status::Refused);
-    assert_eq!(rt; ran.held.as_slice(), b"refused 11 not built\n".as_slice());
     Ok(())
 }
 
