@@ -54,7 +54,7 @@ fn document_of(alloc: Global, tree: &DocumentTree<'_>) -> Result<Doc, ReadFault>
     ensures refused { IfErr result (λ fault. HasNoDocument (resolved text_limits (view.document_of tree.now)) fault) }
 {
     match topos_names::document(alloc, tree) {
-        Ok(doc) => Ok(*doc),
+        Ok(doc) => Ok(Box::into_inner(doc)),
         Err(NameStop::Fault(fault)) => Err(ReadFault::Refused(fault)),
         Err(NameStop::NoMemory) => Err(ReadFault::NoMemory),
     }
