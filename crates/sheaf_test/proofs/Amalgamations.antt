@@ -1,14 +1,14 @@
 -- The listed amalgamations are all of them, and where there is exactly one the list has one member.
-use Rattle.std.proofs.Common.{◌≡◌, ℕ, ◌<◌, true, inl, inr, List, [], ◌∷◌, Option, Some, None, refl, sym, ap, ◌∙◌, subst, arith}
-use Rattle.std.specs.List.{list_all, range_with_len}
+use Rattle.std.proofs.Common.{◌≡◌, ℕ, inl, inr, List, [], ◌∷◌, None, refl, sym, ◌∙◌, subst, arith}
+use Rattle.std.specs.List.{range_with_len}
 use Rattle.std.proofs.lemmas.Bool.{eqb-true, eq-eqb}
 use Rattle.finite_lists.specs.Members.{In, Distinct}
 use Rattle.finite_lists.proofs.Lists.{In-filter, In-filter_from, all_each, each_all}
 use Rattle.finite_lists.proofs.DistinctLists.{In-range, In-range_from, Distinct-filter, Distinct-range}
 use Rattle.topos_model.specs.types.Types.{Presheaf}
-use Rattle.topos_model.specs.Laws.{act, size}
+use Rattle.topos_model.specs.Laws.{size}
 use Rattle.topos_model.specs.presheaves.Maps.{ExactlyOne}
-use Rattle.topos_model.specs.topologies.Sheaves.{element_at, IsAmalgamation, amalgamations, SheafFault, not_one}
+use Rattle.topos_model.specs.topologies.Sheaves.{IsAmalgamation, amalgamations, not_one}
 
 module _ (X : Presheaf) (c : ℕ) (S family : List ℕ) where
   pub listed_amalgamation : (x : ℕ) → In (amalgamations X c S family) x → IsAmalgamation X c S family x

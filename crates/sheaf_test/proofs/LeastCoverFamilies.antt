@@ -1,19 +1,18 @@
 -- It is enough to test the least covers.
-use Rattle.std.proofs.Common.{◌≡◌, ℕ, ◌<◌, List, map, length, Option, None, refl, sym, ap, ◌∙◌, subst, arith}
+use Rattle.std.proofs.Common.{◌≡◌, ℕ, ◌<◌, List, map, None, sym, ap, ◌∙◌, arith}
 use Rattle.std.specs.List.{range_with_len}
 use Rattle.std.proofs.Math.ListN.{length-map}
 use Rattle.finite_lists.specs.Members.{In}
-use Rattle.finite_lists.specs.First.{first}
 use Rattle.finite_lists.proofs.FirstAnswers.{first_none, first_none_each}
 use Rattle.finite_lists.proofs.DistinctLists.{In-range, In-range_from}
-use Rattle.topos_model.specs.categories.Category.{Category, dom, compose, sieves}
+use Rattle.topos_model.specs.categories.Category.{Category, dom, compose}
 use Rattle.topos_model.specs.topologies.Cover.{Site, covers}
 use Rattle.topos_model.specs.types.Types.{Presheaf}
-use Rattle.topos_model.specs.Laws.{IsCategory, IsFunctor, IsInto, IsTopology, act, size}
+use Rattle.topos_model.specs.Laws.{IsCategory, IsFunctor, IsTopology, act, size}
 use Rattle.topos_model.specs.presheaves.Maps.{ExactlyOne}
 use Rattle.topos_model.specs.topologies.LeastCovers.{least, IsLeast}
 use Rattle.topos_model.specs.topologies.Sheaves.{element_at, IsMatching, IsAmalgamation, IsSheaf, matching_families, amalgamations, not_one, sheaf_fault}
-use Rattle.sieve_table.proofs.SieveMembers.{IsSieve, sieve_of, comes, goes}
+use Rattle.sieve_table.proofs.SieveMembers.{IsSieve, sieve_of}
 use Rattle.topologies.proofs.LeastCovers.{is_least, least_covers, cover_sieve}
 use Rattle.type_laws.proofs.Sheaves.{element_at-map}
 use Rattle.sheaf_test.proofs.MatchingFamilies.{listed_matching, matching_listed}

@@ -1,20 +1,18 @@
 -- A text has one fault at most, none where it spells a document within the limits, and spells one document at most.
-use Rattle.std.proofs.Common.{◌≡◌, ◌≤◌, ◌<◌, ℕ, ◌+◌, List, [], ◌∷◌, ◌++◌, length, Option, None, Some, refl, sym, ap, ◌∙◌, subst, arith}
+use Rattle.std.proofs.Common.{◌≡◌, ◌<◌, ℕ, ◌+◌, List, [], ◌∷◌, ◌++◌, length, Option, None, Some, refl, sym, ap, ◌∙◌, subst, arith}
 use Rattle.std.specs.Prelude.{Ok, Err}
-use Rattle.std.proofs.lemmas.List.{length-append}
 use Rattle.std.proofs.lemmas.Str.{utf8_valid_len-IsValidUpTo}
 use Rattle.topos_model.specs.declared.doc.Doc.{Doc}
 use Rattle.topos_model.specs.declared.fault.Fault.{Fault}
 use Rattle.topos_model.specs.declared.fault.Fault.TheVariants.{NotText, BadToken, Syntax}
 use Rattle.topos_text.specs.Tokens.{Token}
-use Rattle.topos_text.specs.Trees.{DocumentTree}
 use Rattle.topos_text.specs.Names.{Checked}
 use Rattle.topos_text.specs.Limits.{token_fault}
 use Rattle.topos_text.specs.Documents.{IsDocument}
 use Rattle.topos_text.specs.Places.{Begins, IsSyntaxPlace}
 use Rattle.topos_text.specs.Resolving.{resolved}
 use Rattle.topos_text.specs.Laws.{TreesAreUnique}
-use Rattle.topos_text.specs.TextFaults.{Spells, SpellsWithin, TextFault, too_long, not_text, bad_token, too_many_in_tokens, no_document, at_name}
+use Rattle.topos_text.specs.TextFaults.{too_long, not_text, bad_token, too_many_in_tokens, no_document, at_name}
 use Rattle.topos_tokens.proofs.Uniqueness.{tokens_are_unique, no_bad_token, text_is_valid, bad_tokens_are_one}
 use Rattle.document_limits.specs.Laws.{text_limits, LimitedDocumentsFit}
 use Rattle.text_laws.specs.Laws.{FaultsAreOne, SpelledTextsAreFaultless, DocumentsAreOne}
@@ -32,6 +30,7 @@ longer (x ∷ xs) ys (v ∷ vs) ws e low =
   where
     tail : x ∷ (xs ++ ys) ≡ v ∷ (vs ++ ws) → xs ++ ys ≡ vs ++ ws
     tail p = cc
+
     head : x ∷ (xs ++ ys) ≡ v ∷ (vs ++ ws) → x ≡ v
     head p = cc
 

@@ -1,5 +1,5 @@
 -- Reading comes to an end on every list of tokens.
-use Rattle.std.proofs.Common.{◌≡◌, ◌⊎◌, inl, inr, ◌≤◌, ◌<◌, ℕ, zero, suc, Bool, true, false, not, ◌||◌, eqb, ltb, List, [], ◌∷◌, length, refl, sym, ap, subst, ◌∙◌, arith, rules}
+use Rattle.std.proofs.Common.{◌≡◌, ◌⊎◌, inl, inr, ◌≤◌, ◌<◌, ℕ, zero, suc, Bool, true, false, not, ◌||◌, eqb, ltb, List, [], ◌∷◌, length, refl, sym, ap, subst, arith, rules}
 use Rattle.std.proofs.lemmas.Bool.{cases_Bool, cases_lt, eqb-true, eq-eqb, ltb-true}
 use denote.Enum.Bare.{sameb, same_true, same_false}
 use Rattle.topos_text.specs.contracts.word.Word.{the_type as word_type}
@@ -258,33 +258,82 @@ choose_shrinks b [] h j = h
 choose_shrinks b (c ∷ cs) h j = (h, choose_shrinks c cs j.0 j.1)
 
 branches_shrink : (v : Version) → AllShrink (other_branches v)
-branches_shrink v =
-    (λ m x y. ((refl, λ p. refl), λ ps. refl),
-    (λ x y z p q. refl,
-    (λ m n z i. refl,
-    (λ x y z p q. refl,
-    (λ m z e i. refl,
-    (λ z. refl,
-    (λ x y z p q. refl,
-    (λ m n z i. refl,
-    (λ x y z p q. refl,
-    ((refl, λ j x a e. refl),
-    ((refl, λ j x. refl),
-    (λ x y. refl,
-    ((refl, λ j e. (refl, λ T x y. refl)),
-    ((refl, λ j x y. (refl, λ T. (refl, λ t i. refl))),
-    ((refl, λ j m y. (refl, λ T. (refl, λ t. refl))),
-    ((refl, λ j. (refl, λ g. (refl, λ t. refl))),
-    ((refl, λ j. (refl, λ g. (refl, λ t. refl))),
-    ((refl, λ j. (refl, λ g. (refl, λ t. refl))),
-    ((refl, λ j u n x. (refl, λ g. (refl, λ t. refl))),
-    ((refl, λ j. ((refl, λ s. refl), λ ss. refl)),
-    (λ m. (λ n. refl, refl),
-    (λ d. ((refl, λ s. refl), λ ss. refl),
-    (λ f. (λ d. ((refl, λ s. refl), λ ss. refl), λ x y. refl),
-    (λ f p l e. refl,
-    (λ f p l e. refl,
-    tt)))))))))))))))))))))))))
+branches_shrink v = (
+  λ m x y. ((refl, λ p. refl), λ ps. refl),
+  (
+    λ x y z p q. refl,
+    (
+      λ m n z i. refl,
+      (
+        λ x y z p q. refl,
+        (
+          λ m z e i. refl,
+          (
+            λ z. refl,
+            (
+              λ x y z p q. refl,
+              (
+                λ m n z i. refl,
+                (
+                  λ x y z p q. refl,
+                  (
+                    (refl, λ j x a e. refl),
+                    (
+                      (refl, λ j x. refl),
+                      (
+                        λ x y. refl,
+                        (
+                          (refl, λ j e. (refl, λ T x y. refl)),
+                          (
+                            (refl, λ j x y. (refl, λ T. (refl, λ t i. refl))),
+                            (
+                              (refl, λ j m y. (refl, λ T. (refl, λ t. refl))),
+                              (
+                                (refl, λ j. (refl, λ g. (refl, λ t. refl))),
+                                (
+                                  (refl, λ j. (refl, λ g. (refl, λ t. refl))),
+                                  (
+                                    (refl, λ j. (refl, λ g. (refl, λ t. refl))),
+                                    (
+                                      (refl, λ j u n x. (refl, λ g. (refl, λ t. refl))),
+                                      (
+                                        (refl, λ j. ((refl, λ s. refl), λ ss. refl)),
+                                        (
+                                          λ m. (λ n. refl, refl),
+                                          (
+                                            λ d. ((refl, λ s. refl), λ ss. refl),
+                                            (
+                                              λ f. (λ d. ((refl, λ s. refl), λ ss. refl), λ x y. refl),
+                                              (
+                                                λ f p l e. refl,
+                                                (
+                                                  λ f p l e. refl,
+                                                  tt,
+                                                ),
+                                              ),
+                                            ),
+                                          ),
+                                        ),
+                                      ),
+                                    ),
+                                  ),
+                                ),
+                              ),
+                            ),
+                          ),
+                        ),
+                      ),
+                    ),
+                  ),
+                ),
+              ),
+            ),
+          ),
+        ),
+      ),
+    ),
+  ),
+)
 
 shrinks : {s : Sort} (K : Kind s) → Shrinks false false (eats_some K) (rank K) (code K)
 unfolding code
@@ -358,6 +407,7 @@ document_ends toks = by_result (code_ends n 2 (more_rank n (no_rank n) 2) false 
   where
     n : ℕ
     n = length toks
+
     by_result : Ends document toks n false → ((t : DocumentTree) × (rest : List Token) × Reads document toks (Whole t rest)) ⊎ ((rest : List Token) × Reads document toks (Stops rest) × (length rest ≤ length toks))
     by_result (Whole t rest, d, b) = inl (t, rest, d)
     by_result (Stops rest, d, b) = inr (rest, d, b)

@@ -1,20 +1,17 @@
 -- Each text has tokens to its end, or a place at which none begins.
-use Rattle.std.proofs.Common.{◌≡◌, ◌⊎◌, inl, inr, ℕ, zero, suc, ◌+◌, ◌≤◌, ◌<◌, Bool, true, false, ◌==◌, eqb, List, [], ◌∷◌, ◌++◌, length, take, drop, Option, Some, None, refl, sym, ap, subst, ◌∙◌, arith, append_assoc}
+use Rattle.std.proofs.Common.{◌≡◌, ◌⊎◌, inl, inr, ℕ, zero, suc, ◌+◌, ◌≤◌, ◌<◌, true, false, ◌==◌, eqb, List, [], ◌∷◌, ◌++◌, length, take, drop, Option, Some, None, refl, sym, ap, subst, ◌∙◌, arith, append_assoc}
 use Rattle.std.specs.List.{list_all}
 use Rattle.std.specs.Prelude.{IsUtf8, chars, encode_utf8_all}
 use Rattle.std.specs.Str.{IsValidUpTo, is_utf8}
 use Rattle.std.proofs.lemmas.Bool.{cases_Bool, cases_lt, eqb-true, eq-eqb}
 use Rattle.std.proofs.lemmas.List.{length-append, take_all}
 use Rattle.std.proofs.lemmas.Str.{IsUtf8-nil, IsUtf8-from_is_utf8, is_utf8-from_IsUtf8}
-use Rattle.topos_text.specs.declared.word.Word.{Word}
-use Rattle.topos_text.specs.declared.symbol.Symbol.{Symbol}
 use Rattle.topos_text.specs.Spelling.{word_of, symbol_of, is_name, is_digit, are_digits, number_of}
 use Rattle.topos_text.specs.Tokens.{Token, Written, Name, Place, Reserved, Sign}
 use Rattle.topos_text.specs.Lexing.{SpellsToken, word, symbol, place, name, written_as, IsLongest, EndsPlace, Lexes, stop, space, comment, token, is_space, is_no_line_feed, EndsComment, Lex, BeginsNothing, IsBadToken}
 use Rattle.topos_tokens.proofs.Fronts.{spelled_some}
 use Rattle.topos_tokens.proofs.Uniqueness.{same_front, same_token}
 use Rattle.topos_tokens.proofs.Words.{same_if}
-use Rattle.topos_tokens.proofs.Blanks.{lexes_then}
 
 -- ---- bytes
 
@@ -67,6 +64,7 @@ spelled n cs =
     none_of cs t no_word no_symbol no_name no_place (symbol e) = absurd (cc)
     none_of cs t no_word no_symbol no_name no_place (name e f) = absurd (cc)
     none_of cs t no_word no_symbol no_name no_place (place {cs = ds} e) = let f = no_place ds refl in absurd (cc)
+
     place_or_none : (cs : List ℕ) → word_of cs ≡ None → symbol_of cs ≡ None → is_name cs ≡ false → Spelled n cs ⊎ (Spelled n cs → ⊥)
     place_or_none [] no_word no_symbol no_name = inr (λ (t, d). spelled_some n t d)
     place_or_none (c ∷ cs) no_word no_symbol no_name =
