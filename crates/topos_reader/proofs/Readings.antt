@@ -1,14 +1,15 @@
 -- From tokens, tree and names to the document of a text, or its fault.
-use Rattle.std.proofs.Common.{◌≡◌, ◌≤◌, ℕ, List, length, refl, sym, ap, ◌∙◌, subst, arith}
+use Rattle.std.proofs.Common.{◌≡◌, ◌≤◌, ℕ, List, [], length, Option, None, refl, sym, ap, ◌∙◌, subst, arith}
 use Rattle.std.specs.Prelude.{Result, Ok, Err, IfOk, IfErr, MatchResult}
 use Rattle.topos_model.specs.declared.doc.Doc.{Doc}
 use Rattle.topos_model.specs.declared.fault.Fault.TheVariants.{Syntax}
 use Rattle.topos_text.specs.Tokens.{Token}
 use Rattle.topos_text.specs.Trees.{DocumentTree}
 use Rattle.topos_text.specs.Names.{Checked}
+use Rattle.topos_text.specs.Limits.{Fits}
 use Rattle.topos_text.specs.Documents.{IsDocument}
 use Rattle.topos_text.specs.Resolving.{resolved}
-use Rattle.topos_text.specs.TextFaults.{SpellsWithin, no_document, at_name}
+use Rattle.topos_text.specs.TextFaults.{SpellsWithin, TextFault, no_document, at_name}
 use Rattle.topos_tokens.specs.TokenFaults.{HasTokens, IsRefused}
 use Rattle.topos_tokens.specs.declared.fault.ReadFault.{ReadFault}
 use Rattle.topos_tokens.specs.declared.fault.ReadFault.TheVariants.{NoMemory, Refused}
