@@ -36,9 +36,13 @@ size_at F c = length (get_or F.rows c [])
 abbrev pub element_at : Functor → ℕ → ℕ → List ℕ
 element_at F c k = get_or (get_or F.rows c []) k []
 
+-- the restrictions of the element k at c, along the arrows into c
+abbrev pub restrictions_at : Functor → ℕ → ℕ → List ℕ
+restrictions_at F c k = get_or (get_or F.restrictions c []) k []
+
 -- the restriction along f of the element k at the codomain of f
 abbrev pub restriction_along : List (ℕ × ℕ) → Functor → ℕ → ℕ → ℕ
-restriction_along ends F f k = get_or (get_or (get_or F.restrictions ((get_or ends f (0, 0)).1) []) k []) (place ends f) 0
+restriction_along ends F f k = get_or (restrictions_at F ((get_or ends f (0, 0)).1) k) (place ends f) 0
 
 -- the cells of the rows of the objects from c on
 unfoldable pub cost_from : List (ℕ × ℕ) → ℕ → List (List (List ℕ)) → ℕ

@@ -1,6 +1,6 @@
 // The store: what is sealed, and what is being built.
 ghost use Rattle.std.specs.Prelude.{◌≡◌, ℕ, ◌+◌, ◌^◌, ◌<◌, ◌≤◌, [], ◌∷◌, length, get_or, MatchOption, None, Some, IfOk, OnOk, OnErr};
-ghost use Rattle.functor_store.specs.Store.{into, cells, bare, with_row, with_restrictions, sealed_with, functor_at, size_at, element_at, restriction_along, IsDistinct, IsFreeKey, IsNext, IsFirstOpen, IsWhole, IfBuilding, IsOverWhere};
+ghost use Rattle.functor_store.specs.Store.{into, cells, bare, with_row, with_restrictions, sealed_with, functor_at, size_at, element_at, restrictions_at, restriction_along, IsDistinct, IsFreeKey, IsNext, IsFirstOpen, IsWhole, IfBuilding, IsOverWhere};
 
 use crate::numbers::{append_row, fill, filled, start_of};
 use crate::tables::{Tables, arrow_tables};
@@ -158,6 +158,19 @@ impl FunctorStore {
             .row(start_of(part.base, &part.ends, c as usize) + k)
     }
 
+    /// The numbers that were pushed for the element k at c, one for each arrow into c, in arrow order: its restrictions.
+    pub fn restrictions(&self, id: FunctorId, c: u32, k: u32) -> &[u32]
+        requires sealed { id < length self.now.sealed }
+        requires object { c < self.now.objects }
+        requires element { k < size_at (functor_at self.now.sealed id) c }
+        ensures numbers { result.now ≡ restrictions_at (functor_at self.now.sealed id) c k }
+        ensures arrows { length result.now ≡ into self.now.ends c }
+    {
+        let part = &self.parts[id];
+        self.restrictions
+            .row(start_of(part.base, &part.ends, c as usize) + k)
+    }
+
     /// The number that was pushed at the arrow f for the element k at the codomain of f.
     pub fn restrict(&self, id: FunctorId, f: u32, k: u32) -> u32
         requires sealed { id < length self.now.sealed }
@@ -167,11 +180,7 @@ impl FunctorStore {
     {
         let arrow = f as usize;
         let (_, c) = *self.ends.get(arrow);
-        let part = &self.parts[id];
-        let row = self
-            .restrictions
-            .row(start_of(part.base, &part.ends, c as usize) + k);
-        row[*self.tables.places.get(arrow) as usize]
+        self.restrictions(id, c, k)[*self.tables.places.get(arrow) as usize]
     }
 
     /// Begins the functor of a type that is not there. Where memory is short the store is as before.

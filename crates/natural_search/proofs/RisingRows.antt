@@ -1,6 +1,8 @@
 -- The fitting rows rise, and a row among rows that rise is found by halving.
-use Rattle.std.proofs.Common.{◌≡◌, ℕ, zero, suc, ◌+◌, ◌*◌, ◌<◌, ◌≤◌, inl, inr, List, [], ◌∷◌, length, get_or, map, take, refl, sym, ap, subst, ◌∙◌, arith}
+use Rattle.std.proofs.Common.{◌≡◌, ℕ, zero, suc, ◌<◌, inl, inr, List, [], ◌∷◌, length, get_or, map, take, sym, ap, subst, ◌∙◌, arith}
 use Rattle.std.specs.List.{range_with_len}
+use Rattle.std.specs.declared.cmp.Ordering.{Ordering}
+use Rattle.std.specs.declared.cmp.Ordering.TheVariants.{Less, Equal, Greater}
 use Rattle.std.proofs.lemmas.Bool.{cases_lt}
 use Rattle.finite_lists.specs.Members.{In}
 use Rattle.finite_lists.specs.Rising.{Rising, NumbersBelow}
@@ -9,6 +11,7 @@ use Rattle.finite_lists.proofs.RisingLists.{Rising-filter, Rising-range}
 use Rattle.natural_search.specs.declared.squares.Square.{Square}
 use Rattle.natural_search.specs.Search.{fitting, assignments}
 use Rattle.natural_search.specs.Squares.{is_fitting}
+use Rattle.natural_search.specs.Rows.{IsCompared, IsPlaced}
 use Rattle.natural_search.proofs.ListChoices.{Rising-choices}
 
 pub fitting_rise : (along : List (List ℕ)) (squares : List Square) (bounds : List ℕ) → Rising NumbersBelow (fitting along squares bounds)
@@ -78,3 +81,19 @@ pub stands : (all : List (List ℕ)) (row : List ℕ) → In all row → (n : �
 stands [] row i = absurd i
 stands (x ∷ all) row (inl e) = (0, omega arith, e)
 stands (x ∷ all) row (inr i) = let (n, low, is) = stands all row i in (suc n, omega (arith, low), is)
+
+-- a row stands in one place alone
+pub stands_once : (all : List (List ℕ)) → Rising NumbersBelow all → (m n : ℕ) → m < length all → n < length all → get_or all m [] ≡ get_or all n [] → m ≡ n
+stands_once all rise m n low within is = elim (cases_lt m n) [
+  | inl l ↦ absurd (let b = rising_at all m n rise l within in apart (get_or all m []) (get_or all n []) b (subst (λ r. NumbersBelow r (get_or all m [])) is (subst (λ r. NumbersBelow (get_or all m []) r) (sym is) b)))
+  | inr h ↦ elim (cases_lt n m) [
+    | inl l ↦ absurd (let b = rising_at all n m rise l low in apart (get_or all n []) (get_or all m []) b (subst (λ r. NumbersBelow r (get_or all n [])) (sym is) (subst (λ r. NumbersBelow (get_or all n []) r) is b)))
+    | inr k ↦ omega arith
+  ]
+]
+
+-- a row among rows that rise is compared with them as its place with theirs
+pub is_placed : (all : List (List ℕ)) → Rising NumbersBelow all → (row : List ℕ) (n m : ℕ) → n < length all → get_or all n [] ≡ row → m < length all → (answer : Ordering) → IsCompared (get_or all m []) row answer → IsPlaced m n answer
+is_placed all rise row n m low is within Less h = stands_later all rise row n low is m within h
+is_placed all rise row n m low is within Equal h = stands_once all rise m n within low (h ∙ sym is)
+is_placed all rise row n m low is within Greater h = stands_before all rise row n low is m within h

@@ -35,3 +35,9 @@ abbrev pub IsCompared : List ℕ → List ℕ → Ordering → Type 0
 IsCompared row other Less = NumbersBelow row other
 IsCompared row other Equal = row ≡ other
 IsCompared row other Greater = NumbersBelow other row
+
+-- how a place stands to another
+abbrev pub IsPlaced : ℕ → ℕ → Ordering → Type 0
+IsPlaced m n Less = m < n
+IsPlaced m n Equal = m ≡ n
+IsPlaced m n Greater = n < m

@@ -4,6 +4,7 @@
 mod chains;
 mod domains;
 mod free_places;
+mod halving;
 mod links;
 mod order;
 mod preimages;
@@ -12,7 +13,9 @@ mod rows;
 mod search;
 mod squares;
 
+pub use halving::place_by;
+pub use order::compare_rows;
 pub use preimages::Preimages;
 pub use rows::{FirstRows, FoundRows};
-pub use search::{all_rows, first_rows};
+pub use search::{all_rows, first_rows, push_row};
 pub use squares::Square;

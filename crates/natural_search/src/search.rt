@@ -25,8 +25,8 @@ fn zeros(alloc: Global, count: usize) -> Result<Vec<u32>, NoMemory>
     Ok(zeros)
 }
 
-// Puts the numbers of a row last.
-fn push_row(numbers: &mut Row<u32>, row: &[u32]) -> Result<(), NoMemory>
+/// Puts the numbers of a row last.
+pub fn push_row(numbers: &mut Row<u32>, row: &[u32]) -> Result<(), NoMemory>
     ensures { OnOk result (numbers.new ≡ numbers.old ++ row.now) }
 {
     for number in row {

@@ -1,6 +1,6 @@
 use Rattle.std.proofs.Common.{sym, arith}
 use Rattle.natural_search.proofs.RisingRows.{below_at}
-use Rattle.natural_search.proofs.order.compared.Goals as goal
+use Rattle.natural_search.proofs.order.compare_rows.Goals as goal
 
 pub returns-then-row-i : goal.returns-then-row-i
 returns-then-row-i c = below_at c.args.row.now c.args.other.now c.places.i c.places.invariant c.places-test.true (omega (arith, c.places-test.true, c.requires)) c.if-row-i.true
