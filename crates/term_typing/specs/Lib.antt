@@ -1,2 +1,3 @@
 pub mod Inferring
 pub mod Laws
+pub mod Noted

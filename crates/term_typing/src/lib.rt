@@ -3,10 +3,14 @@
 
 mod fault;
 mod laws;
+mod occurrence;
+mod product;
 mod scope;
 mod sort;
 mod typing;
 
 pub use fault::TypeFault;
-pub use laws::typing_laws;
+pub use laws::{counting_laws, typing_laws};
+pub use occurrence::names_functor;
+pub use product::context_product;
 pub use typing::infer;
