@@ -14,7 +14,7 @@ use Rattle.topos_model.specs.topologies.LeastCovers.{least, IsLeast}
 use Rattle.topos_model.specs.topologies.Sheaves.{element_at, IsMatching, IsAmalgamation, IsSheaf, matching_families, amalgamations, not_one, sheaf_fault}
 use Rattle.sieve_table.proofs.SieveMembers.{IsSieve, sieve_of}
 use Rattle.topologies.proofs.LeastCovers.{is_least, least_covers, cover_sieve}
-use Rattle.type_laws.proofs.Sheaves.{element_at-map}
+use Rattle.sheaf_test.proofs.FamilyPlaces.{element_at-map}
 use Rattle.sheaf_test.proofs.MatchingFamilies.{listed_matching, matching_listed}
 use Rattle.sheaf_test.proofs.Amalgamations.{faultless_is_one, one_is_faultless}
 
