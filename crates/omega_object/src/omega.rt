@@ -48,7 +48,7 @@ impl Omega {
     }
 
     /// The number of a closed sieve on c.
-    pub(crate) fn number(&self, c: u32, sieve: ArrowMask) -> u32
+    pub fn number(&self, c: u32, sieve: ArrowMask) -> u32
         requires object { c < length self.now.sieves }
         ensures { (s : Site) → IsOmegaOn s self.now → In (closed_sieves s c) (arrows_in sieve) → IsNumber s c result (arrows_in sieve) }
     {

@@ -63,11 +63,11 @@ unfolding hidden-the_row-Ty-0 Carrier.hidden
 no_base S T n e = cc
 
 module _ (s : Site) (functors : List Presheaf) (S T : Ty) where
-  pair_elements : (c : ℕ) → elements s functors (Two S T) c ≡ flat_map (λ u. map (λ v. Pair u v) (elements s functors T c)) (elements s functors S c)
+  pub pair_elements : (c : ℕ) → elements s functors (Two S T) c ≡ flat_map (λ u. map (λ v. Pair u v) (elements s functors T c)) (elements s functors S c)
   unfolding two_elements
   pair_elements c = elements-Two s functors S T c
 
-  length-pairs : (c : ℕ) → length (elements s functors (Two S T) c) ≡ length (elements s functors S c) * length (elements s functors T c)
+  pub length-pairs : (c : ℕ) → length (elements s functors (Two S T) c) ≡ length (elements s functors S c) * length (elements s functors T c)
   length-pairs c = ap length (pair_elements c) ∙ length-joined (λ u. map (λ v. Pair u v) (elements s functors T c)) (length (elements s functors T c)) (elements s functors S c) (λ u i. length-map (elements s functors T c) (λ v. Pair u v))
 
   mapped_at : {A B : Type 0} (h : A → B) (xs : List A) (i : ℕ) (d : A) (e : B) → i < length xs → get_or (map h xs) i e ≡ h (get_or xs i d)
@@ -76,7 +76,7 @@ module _ (s : Site) (functors : List Presheaf) (S T : Ty) where
   mapped_at h (x ∷ xs) (suc i) d e low = mapped_at h xs i d e (omega (arith, low))
 
   -- the pair (a, b) stands at its number
-  pair_value : (c m a b : ℕ) → m ≡ length (elements s functors T c) → a < length (elements s functors S c) → b < m → value_at s functors (Two S T) c (a * m + b) ≡ Pair (value_at s functors S c a) (value_at s functors T c b)
+  pub pair_value : (c m a b : ℕ) → m ≡ length (elements s functors T c) → a < length (elements s functors S c) → b < m → value_at s functors (Two S T) c (a * m + b) ≡ Pair (value_at s functors S c a) (value_at s functors T c b)
   pair_value c m a b e low low' =
       let n = length (elements s functors T c) in
       let low'' : b < n = omega (arith, low', e) in

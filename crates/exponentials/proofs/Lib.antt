@@ -1,0 +1,4 @@
+pub mod Extended
+pub mod Outcomes
+pub mod NewCells
+pub mod PartsOf

@@ -1,0 +1,2 @@
+pub mod MoreFunctors
+pub mod NamedElements

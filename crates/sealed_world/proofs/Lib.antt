@@ -1,0 +1,3 @@
+pub mod CountedCells
+pub mod OmegaParts
+pub mod Growing

@@ -1,0 +1,8 @@
+//! A site with the presheaves that are declared over it and the types that are counted, sealed in a store.
+#![tactic(auto)]
+
+mod ends;
+mod omega;
+mod world;
+
+pub use world::SealedWorld;
