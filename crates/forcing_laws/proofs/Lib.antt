@@ -1,0 +1,10 @@
+pub mod Tuples
+pub mod TupleLists
+pub mod Properties
+pub mod Operators
+pub mod TruthAndForcing
+pub mod TermValues
+pub mod Formulas
+pub mod NamedSheaves
+pub mod Meanings
+pub mod Theorem

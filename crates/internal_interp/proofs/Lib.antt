@@ -1,0 +1,11 @@
+pub mod TupleVariables
+pub mod ContextVariables
+pub mod TermFacts
+pub mod Bindings
+pub mod Subterms
+pub mod FormulaFacts
+pub mod ReadingFacts
+pub mod AbstractionFacts
+pub mod Unbound
+pub mod ImageFacts
+pub mod FormFacts

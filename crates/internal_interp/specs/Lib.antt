@@ -1,0 +1,7 @@
+pub mod Contexts
+pub mod Known
+pub mod Formulas
+pub mod Readings
+pub mod Abstractions
+pub mod Images
+pub mod Interpretations

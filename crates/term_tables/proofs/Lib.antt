@@ -1,0 +1,17 @@
+pub mod Contexts
+pub mod OneNumber
+pub mod SealedSizes
+pub mod PairTables
+pub mod PairParts
+pub mod FirstPlaces
+pub mod ElementRows
+pub mod ReadingParts
+pub mod TruthValueParts
+pub mod StrictOrder
+pub mod RowMatches
+pub mod RisingRows
+pub mod BlockRows
+pub mod RowNumbers
+pub mod FunctionParts
+pub mod SubsetParts
+pub mod DeclaredImages

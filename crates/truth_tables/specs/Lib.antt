@@ -1,0 +1,5 @@
+pub mod Tables
+pub mod Arrows
+pub mod Entries
+pub mod Abstraction
+pub mod Standing
