@@ -152,8 +152,8 @@ no_monoid_refused : RunOf no_monoid 84 [] (Refused None (NotAssociative 1 1 1))
 unfolding opened
 no_monoid_refused = site_refused refl
 
--- where cells are not counted together, each statement has the whole budget, and a verdict is refused
-pairs_answered_today : IsAnswered today graphs 0 behind_graph equal_pairs shown_pairs behind_pairs
+-- as far as the language is run the pairs are shown with the same cells, and a verdict is refused
+pairs_answered_today : IsAnswered today graphs 84 behind_graph equal_pairs shown_pairs behind_pairs
 unfolding opened behind_graph behind_pairs pair
 pairs_answered_today = record {
   types = record { is_run = refl; accepted = refl; within = omega arith };

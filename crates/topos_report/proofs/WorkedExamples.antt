@@ -20,13 +20,13 @@ use Rattle.topos_report.specs.Names.{name_or_number, arrow_name, element_name}
 use Rattle.topos_report.specs.Values.{ends_of, pair_text, sieve_text, entry_text, subset_text, assign_text, function_text, value_text, typed_text, tuple_text}
 use Rattle.topos_report.specs.Stages.{tuples_line, tuples_line_at, tuples_list}
 use Rattle.topos_report.specs.Refusals.{functor_of, number_prefix, declared_functor, element_of, element_along_text, tested_of, tested_at, refusal_line}
-use Rattle.topos_report.specs.Report.{answer_lines, lines_from, end_line, report}
+use Rattle.topos_report.specs.Report.{answer_lines, lines_from, cells_line, end_line, report}
 use Rattle.topos_report.specs.EmptyDocument.{empty_document}
 use Rattle.topos_report.specs.AnswerLines.{heading}
 
 -- what the examples compute with
 opened : Unit {0}
-unfolding digits number_of first_of second_of arrows_of entries_of assigns_of out-Val hidden-the_row-Ty-0 hidden-the_row-Val-0 hidden-the_row-Entry-1 hidden-the_row-Assign-2 shown-the_row-Val-0 shown-the_row-Entry-1 shown-the_row-Assign-2 Carrier.hidden Carrier.shown Carrier.out all_ends name_or_number arrow_name element_name ends_of pair_text sieve_text entry_text subset_text assign_text function_text value_text typed_text tuple_text tuples_line tuples_line_at tuples_list functor_of number_prefix declared_functor element_of element_along_text tested_of tested_at refusal_line heading answer_lines lines_from end_line report empty_document
+unfolding digits number_of first_of second_of arrows_of entries_of assigns_of out-Val hidden-the_row-Ty-0 hidden-the_row-Val-0 hidden-the_row-Entry-1 hidden-the_row-Assign-2 shown-the_row-Val-0 shown-the_row-Entry-1 shown-the_row-Assign-2 Carrier.hidden Carrier.shown Carrier.out all_ends name_or_number arrow_name element_name ends_of pair_text sieve_text entry_text subset_text assign_text function_text value_text typed_text tuple_text tuples_line tuples_line_at tuples_list functor_of number_prefix declared_functor element_of element_along_text tested_of tested_at refusal_line heading answer_lines lines_from cells_line end_line report empty_document
 opened = tt
 
 tuple : List Val → Tuple
@@ -60,13 +60,13 @@ equal_edges : report graphs
     (Quiet
     ∷ of_pairs ((pair 0 0 ∷ pair 1 1 ∷ []) ∷ (pair 0 0 ∷ pair 1 1 ∷ pair 2 2 ∷ []) ∷ [])
     ∷ of_pairs ((pair 0 1 ∷ pair 1 0 ∷ []) ∷ (pair 0 2 ∷ pair 1 2 ∷ pair 2 0 ∷ pair 2 1 ∷ []) ∷ []) ∷ []) (Whole 84)
-    ≡ codes "4 show\nV: (p, p) (q, q)\nE: (e, e) (f, f) (l, l)\n5 show\nV: (p, q) (q, p)\nE: (e, l) (f, l) (l, e) (l, f)\n"
+    ≡ codes "4 show\nV: (p, p) (q, q)\nE: (e, e) (f, f) (l, l)\n5 show\nV: (p, q) (q, p)\nE: (e, l) (f, l) (l, e) (l, f)\ncells 84\n"
 unfolding opened tuple pair graphs of_pairs
 equal_edges = refl
 
 -- sieves, and no space behind the colon where there is no item
-sieves : report graphs (Shown (record { types = Omega ∷ [] }) ([] ∷ (tuple (Sv [] ∷ []) ∷ tuple (Sv (1 ∷ 2 ∷ 3 ∷ []) ∷ []) ∷ []) ∷ []) ∷ []) (Whole 0)
-    ≡ codes "3 show\nV:\nE: ({}) ({id E, s, t})\n"
+sieves : report graphs (Shown (record { types = Omega ∷ [] }) ([] ∷ (tuple (Sv [] ∷ []) ∷ tuple (Sv (1 ∷ 2 ∷ 3 ∷ []) ∷ []) ∷ []) ∷ []) ∷ []) (Whole 24)
+    ≡ codes "3 show\nV:\nE: ({}) ({id E, s, t})\ncells 24\n"
 unfolding opened tuple graphs
 sieves = refl
 

@@ -32,7 +32,8 @@ use Rattle.topos_report.specs.Tables.{arrow_text, numbers_line, along_line, shap
 use Rattle.topos_report.specs.CertificateLines.{verdict_text, side_text, extra_text, child_text, node_line, node_lines}
 use Rattle.topos_report.specs.FaultTexts.{topology_prefix, subject_of, subject_at, topology_text, element_along_text, sent_text, fault_text, fault_line}
 use Rattle.topos_report.specs.AnswerLines.{heading, why_formula, unforced_line, verdict_lines, classified_line, classified_at, member_text, failing_family, made_heading, built_lines, listed_map_lines, unit_line, from_names, to_names, unit_lines, kan_lines, cover_line, why_heading, answer_text}
-use Rattle.topos_report.specs.WholeReport.{cells_line, texts_from, ending, whole_report}
+use Rattle.topos_report.specs.Report.{cells_line}
+use Rattle.topos_report.specs.WholeReport.{texts_from, ending, whole_report}
 use Rattle.topos_report.specs.EmptyDocument.{empty_document}
 
 -- what the examples compute with

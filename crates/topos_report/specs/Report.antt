@@ -4,12 +4,16 @@ use Rattle.std.specs.List.{range_with_len}
 use Rattle.topos_model.specs.declared.answer.Answer.{Answer}
 use Rattle.topos_model.specs.declared.answer.Answer.TheVariants.{Quiet, Built, Shown, Maps}
 use Rattle.topos_model.specs.declared.answer.End.{End}
-use Rattle.topos_model.specs.declared.answer.End.TheVariants.{Refused, Budget}
+use Rattle.topos_model.specs.declared.answer.End.TheVariants.{Whole, Refused, Budget}
 use Rattle.topos_model.specs.declared.stmt.Stmt.{Stmt}
 use Rattle.topos_model.specs.declared.doc.Doc.{Doc}
 use Rattle.topos_report.specs.Stages.{tuples_list}
 use Rattle.topos_report.specs.AnswerLines.{heading, built_lines, listed_map_lines}
 use Rattle.topos_report.specs.Refusals.{refusal_line}
+
+-- how many cells there are
+unfoldable pub cells_line : ℕ → List ℕ
+cells_line cells = codes "cells " ++ decimal cells ++ codes "\n"
 
 module _ (doc : Doc) where
   -- the lines of the answer to a statement, its number being k; those that no statement gives yet have none
@@ -25,8 +29,9 @@ module _ (doc : Doc) where
   lines_from k (stmt ∷ later) (answer ∷ rest) = answer_lines k stmt answer ++ lines_from (k + 1) later rest
   lines_from k _ _ = []
 
-  -- cells are not counted yet, so the end of a whole run has no line
+  -- a whole run ends with the number of its cells
   unfoldable pub end_line : End → List ℕ
+  end_line (Whole cells) = cells_line cells
   end_line (Refused at fault) = refusal_line doc at fault
   end_line (Budget k) = heading k (codes "budget")
   end_line _ = []

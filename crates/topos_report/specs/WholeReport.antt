@@ -7,10 +7,7 @@ use Rattle.topos_model.specs.declared.answer.End.{End}
 use Rattle.topos_model.specs.declared.answer.End.TheVariants.{Whole, Checked, Refused, Budget}
 use Rattle.topos_report.specs.FaultTexts.{fault_line}
 use Rattle.topos_report.specs.AnswerLines.{heading, answer_text}
-
--- how many cells there are
-unfoldable pub cells_line : ℕ → List ℕ
-cells_line cells = codes "cells " ++ decimal cells ++ codes "\n"
+use Rattle.topos_report.specs.Report.{cells_line}
 
 module _ (doc : Doc) where
   -- the answers to these statements, the first having the number k

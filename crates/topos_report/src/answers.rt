@@ -1,7 +1,7 @@
 // Lines of answers and of the run's end.
 ghost use Rattle.std.specs.Prelude.{◌≡◌, ◌≤◌, ◌+◌, ◌++◌, length, codes, OnOk};
 ghost use Rattle.topos_report.specs.AnswerLines.{heading};
-ghost use Rattle.topos_report.specs.Report.{answer_lines, lines_from, end_line};
+ghost use Rattle.topos_report.specs.Report.{answer_lines, lines_from, cells_line, end_line};
 
 use crate::bytes::{push_bytes, push_number};
 use crate::refusals::push_refusal;
@@ -56,7 +56,17 @@ fn push_budget(out: &mut Vec<u8>, k: u64) -> Result<(), NoMemory>
     push_bytes(out, b" budget\n")
 }
 
-/// The line of the run's end. Ends that no run has yet have none.
+/// The line of a whole run.
+#[tactic(auto, unfolding(crate::specs::Report::cells_line))]
+fn push_cells(out: &mut Vec<u8>, cells: u64) -> Result<(), NoMemory>
+    ensures { OnOk result (out.new.items ≡ out.old.items ++ cells_line cells) }
+{
+    push_bytes(out, b"cells ")?;
+    push_number(out, cells)?;
+    push_bytes(out, b"\n")
+}
+
+/// The line of the run's end. An end that no run has yet has none.
 #[tactic(auto, unfolding(crate::specs::Report::end_line))]
 pub fn push_end(out: &mut Vec<u8>, doc: &Doc, end: &End) -> Result<(), NoMemory>
     ensures { OnOk result (out.new.items ≡ out.old.items ++ end_line doc.now end.now) }
@@ -64,6 +74,7 @@ pub fn push_end(out: &mut Vec<u8>, doc: &Doc, end: &End) -> Result<(), NoMemory>
     match end {
         End::Refused { at, fault } => push_refusal(out, doc, *at, fault),
         End::Budget { at } => push_budget(out, u64::from(*at)),
+        End::Whole { cells } => push_cells(out, *cells),
         _ => Ok(()),
     }
 }

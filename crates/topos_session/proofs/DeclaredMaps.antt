@@ -40,7 +40,7 @@ use Rattle.topos_model.specs.statements.Built.{is_built}
 use Rattle.topos_session.specs.Variables.{AreFunctors, presheaf_world}
 use Rattle.topos_session.specs.declared.declarations.FunctorMap.{FunctorMap}
 use Rattle.topos_session.specs.declared.declarations.Declarations.{Declarations}
-use Rattle.topos_session.specs.Declarations.{declared_map, with_counted, AreLawful, made, no_map}
+use Rattle.topos_session.specs.Declarations.{declared_map, with_counted, AreLawful, no_map}
 use Rattle.topos_session.specs.Declarations as session
 use Rattle.topos_session.specs.Progress.{declared_by}
 use Rattle.topos_session.proofs.PropositionalTypes.{propositional_typed, propositional_applies_none, named_reversed}
@@ -144,11 +144,11 @@ module _ (doc : Doc) (trivial : is_trivial doc.tops ≡ true) (so : Declarations
   unfolding sheaf_refusal
   no_sheaf_asked stmt none =
       first_none (λ n. some_if (list_any (is_functor n) (types_of (map_ends d) stmt) && not (is_none (sheaf_fault (site_of doc (under stmt)) (functor_at d n)))) (NotASheaf n))
-      (range_with_len 0 (length so.functors))
+      (range_with_len 0 (length so.world.functors))
       (λ n i. ap (λ (l : List Ty). some_if (list_any (is_functor n) l && not (is_none (sheaf_fault (site_of doc (under stmt)) (functor_at d n)))) (NotASheaf n)) none)
 
   -- a propositional formula over functors is accepted
-  module _ (lawful : IsCategory k) (are : AreFunctors k so.functors) (ctx : Ctx) (φ : Term) (all : list_all is_named ctx.types ≡ true) (form : is_propositional (map named (reverse ctx.types)) φ ≡ true) where
+  module _ (lawful : IsCategory k) (are : AreFunctors k so.world.functors) (ctx : Ctx) (φ : Term) (all : list_all is_named ctx.types ≡ true) (form : is_propositional (map named (reverse ctx.types)) φ ≡ true) where
     no_foreign_map : foreign_refusal doc d (Show 0 ctx φ) ≡ None
     unfolding foreign_refusal foreign_map_fault terms_of
     no_foreign_map = rw (propositional_applies_none (map named (reverse ctx.types)) φ form) refl
@@ -157,16 +157,16 @@ module _ (doc : Doc) (trivial : is_trivial doc.tops ≡ true) (so : Declarations
     unfolding typing_fault formula_fault terms_of same_type hidden-the_row-Ty-0 Carrier.hidden
     well_typed = rw (propositional_typed (map_ends d) (reverse ctx.types) φ (named_reversed ctx.types all) form) refl
 
-    is_sheaf : (m : ℕ) → m < length so.functors → is_none (sheaf_fault (site_of doc 0) (functor_at d m)) ≡ true
+    is_sheaf : (m : ℕ) → m < length so.world.functors → is_none (sheaf_fault (site_of doc 0) (functor_at d m)) ≡ true
     is_sheaf m low = rw (site_is doc k trivial refl, no_sheaf_fault k lawful (functor_at d m) (are m low)) refl
 
     all_sheaves : sheaf_refusal doc d (Show 0 ctx φ) ≡ None
     unfolding sheaf_refusal under
     all_sheaves =
         first_none (λ m. some_if (list_any (is_functor m) (types_of (map_ends d) (Show 0 ctx φ)) && not (is_none (sheaf_fault (site_of doc 0) (functor_at d m)))) (NotASheaf m))
-        (range_with_len 0 (length so.functors))
+        (range_with_len 0 (length so.world.functors))
         (λ m i.
-        let r = In-range_from 0 (length so.functors) m i in
+        let r = In-range_from 0 (length so.world.functors) m i in
         ap (λ (b : Bool). some_if b (NotASheaf m))
         (and_right (list_any (is_functor m) (types_of (map_ends d) (Show 0 ctx φ))) _ (ap not (is_sheaf m (omega (arith, r.1))))))
 
@@ -174,8 +174,8 @@ module _ (doc : Doc) (trivial : is_trivial doc.tops ≡ true) (so : Declarations
     unfolding refusal term_refusal ends_fit
     formula_accepted = rw (no_foreign_map, well_typed, all_sheaves) refl
 
-    pub formula_shown : (c : ℕ) → shown (presheaf_world k so.functors) (reverse ctx.types) φ c ≡ shown (world_under doc d 0) (reverse ctx.types) φ c
+    pub formula_shown : (c : ℕ) → shown (presheaf_world k so.world.functors) (reverse ctx.types) φ c ≡ shown (world_under doc d 0) (reverse ctx.types) φ c
     unfolding world_under
     formula_shown c =
-        shown_aside (presheaf_world k so.functors).site so.functors [] (map (λ (m : DeclaredMap). m.pairs) d.maps) (map named (reverse ctx.types)) (reverse ctx.types) φ form c
-        ∙ ap (λ (s : Site). shown (record { site = s; functors = so.functors; maps = map (λ (m : DeclaredMap). m.pairs) d.maps }) (reverse ctx.types) φ c) (sym (site_is doc k trivial refl))
+        shown_aside (presheaf_world k so.world.functors).site so.world.functors [] (map (λ (m : DeclaredMap). m.pairs) d.maps) (map named (reverse ctx.types)) (reverse ctx.types) φ form c
+        ∙ ap (λ (s : Site). shown (record { site = s; functors = so.world.functors; maps = map (λ (m : DeclaredMap). m.pairs) d.maps }) (reverse ctx.types) φ c) (sym (site_is doc k trivial refl))

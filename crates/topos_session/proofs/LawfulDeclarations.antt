@@ -1,16 +1,15 @@
 -- What is declared stays lawful with a functor or a map more, and what that costs.
-use Rattle.std.proofs.Common.{◌≡◌, ℕ, zero, suc, ◌+◌, ◌-◌, ◌<◌, List, [], ◌∷◌, ◌++◌, map, length, get_or, drop, sum, ap, ◌∙◌, length-append, arith}
+use Rattle.std.proofs.Common.{◌≡◌, ℕ, zero, suc, ◌+◌, ◌-◌, ◌<◌, List, [], ◌∷◌, ◌++◌, map, length, get_or, drop, sum, refl, ap, ◌∙◌, length-append, arith}
 use Rattle.std.proofs.Math.ListN.{get_or-append}
 use Rattle.std.proofs.Math.Seq.{get_or-append_seam, drop-append_seam, drop-length}
 use Rattle.topos_model.specs.categories.Category.{Category}
 use Rattle.topos_model.specs.types.Types.{Presheaf}
 use Rattle.topos_model.specs.Laws.{IsFunctor}
 use Rattle.topos_model.specs.presheaves.Maps.{Components, IsNatural}
-use Rattle.topos_model.specs.statements.Cells.{presheaf_cells}
 use Rattle.topos_session.specs.declared.declarations.FunctorMap.{FunctorMap}
 use Rattle.topos_session.specs.declared.declarations.Declarations.{Declarations}
 use Rattle.topos_session.specs.Variables.{functor_at, none}
-use Rattle.topos_session.specs.Declarations.{no_map, map_at, IsFunctorMap, AreLawful, with_functor, with_presheaf, with_map, with_cells, made}
+use Rattle.topos_session.specs.Declarations.{no_map, map_at, IsFunctorMap, AreLawful, IsKept, with_functor, with_presheaf, with_map, with_cells}
 use Rattle.topos_session.specs.Constructions.{between}
 use Rattle.topos_session.proofs.SessionSteps.{one_more, one_more_of}
 
@@ -76,50 +75,31 @@ module _ (k : Category) (functors : List Presheaf) (Z : Presheaf) where
   }
 
 module _ (k : Category) (so : Declarations) (lawful : AreLawful k so) where
-  pub lawful_functor : (Z : Presheaf) (maps : List FunctorMap) → IsFunctor k Z → ((n : ℕ) → n < length maps → IsFunctorMap k (so.functors ++ Z ∷ []) (map_at maps n)) → AreLawful k (with_functor so Z maps)
+  pub lawful_functor : (Z : Presheaf) (maps : List FunctorMap) → IsFunctor k Z → ((n : ℕ) → n < length maps → IsFunctorMap k (so.world.functors ++ Z ∷ []) (map_at maps n)) → AreLawful k (with_functor so Z maps)
   lawful_functor Z maps functor natural = record {
-    functors = one_more k so.functors Z lawful.functors functor;
-    maps = all_of_both (IsFunctorMap k (so.functors ++ Z ∷ [])) no_map so.maps maps (λ n low. still_map k so.functors Z (map_at so.maps n) (lawful.maps n low)) natural;
+    functors = one_more k so.world.functors Z lawful.functors functor;
+    maps = all_of_both (IsFunctorMap k (so.world.functors ++ Z ∷ [])) no_map so.maps maps (λ n low. still_map k so.world.functors Z (map_at so.maps n) (lawful.maps n low)) natural;
   }
 
   pub lawful_presheaf : (X : Presheaf) → IsFunctor k X → AreLawful k (with_presheaf so X)
   lawful_presheaf X functor = record {
-    functors = one_more k so.functors X lawful.functors functor;
-    maps = λ n low. still_map k so.functors X (map_at so.maps n) (lawful.maps n low);
+    functors = one_more k so.world.functors X lawful.functors functor;
+    maps = λ n low. still_map k so.world.functors X (map_at so.maps n) (lawful.maps n low);
   }
 
-  pub lawful_map : (m : FunctorMap) → IsFunctorMap k so.functors m → AreLawful k (with_map so m)
+  pub lawful_map : (m : FunctorMap) → IsFunctorMap k so.world.functors m → AreLawful k (with_map so m)
   lawful_map m natural = record {
     functors = lawful.functors;
-    maps = one_more_of (IsFunctorMap k so.functors) no_map so.maps m lawful.maps natural;
+    maps = one_more_of (IsFunctorMap k so.world.functors) no_map so.maps m lawful.maps natural;
   }
 
   pub lawful_cells : (cells : ℕ) → AreLawful k (with_cells so cells)
   lawful_cells cells = record { functors = lawful.functors; maps = lawful.maps }
 
--- the cells of what is declared
-one_cost : (k : Category) (functors : List Presheaf) (Z : Presheaf) (n : ℕ) → sum (map (presheaf_cells k) (drop (length functors) (functors ++ Z ∷ []))) + (n - n) ≡ presheaf_cells k Z
-one_cost k functors Z n =
-    ap (λ (l : List Presheaf). sum (map (presheaf_cells k) l) + (n - n)) (drop-append_seam functors (Z ∷ [])) ∙ alone (presheaf_cells k Z) n
-  where
-    alone : (a n : ℕ) → sum (a ∷ []) + (n - n) ≡ a
-    alone a n = omega arith
+  -- more types are sealed
+  pub lawful_sealed : (mid : Declarations) → mid.world.functors ≡ so.world.functors → mid.maps ≡ so.maps → AreLawful k mid
+  lawful_sealed mid functors maps = record { functors = rw functors lawful.functors; maps = rw (functors, maps) lawful.maps }
 
-pub functor_cost : (k : Category) (so : Declarations) (Z : Presheaf) (maps : List FunctorMap) → made k so (with_functor so Z maps) ≡ presheaf_cells k Z
-functor_cost k so Z maps = one_cost k so.functors Z so.others
-
-pub presheaf_cost : (k : Category) (so : Declarations) (X : Presheaf) → made k so (with_presheaf so X) ≡ presheaf_cells k X
-presheaf_cost k so X = one_cost k so.functors X so.others
-
-pub listed_cost : (k : Category) (so : Declarations) (cells : ℕ) → made k so (with_cells so cells) ≡ cells
-listed_cost k so cells =
-    ap (λ (l : List Presheaf). sum (map (presheaf_cells k) l) + (so.others + cells - so.others)) (drop-length so.functors) ∙ added so.others cells
-  where
-    added : (n cells : ℕ) → sum [] + (n + cells - n) ≡ cells
-    added n cells = omega arith
-
-pub no_cost : (k : Category) (so : Declarations) → made k so so ≡ 0
-no_cost k so = ap (λ (l : List Presheaf). sum (map (presheaf_cells k) l) + (so.others - so.others)) (drop-length so.functors) ∙ nothing so.others
-  where
-    nothing : (n : ℕ) → sum [] + (n - n) ≡ 0
-    nothing n = omega arith
+-- where nothing changed, nothing but types did
+pub unchanged_kept : (so after : Declarations) → after ≡ so → IsKept so after
+unchanged_kept so after e = record { types = so.world.types; is = e }

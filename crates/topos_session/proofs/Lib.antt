@@ -27,3 +27,6 @@ pub mod DeclaredMaps
 pub mod StagedAnswers
 pub mod StagedStatements
 pub mod RunSteps
+pub mod CellsSoFar
+pub mod NoTypes
+pub mod ShownTypes

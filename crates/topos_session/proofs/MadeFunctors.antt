@@ -1,5 +1,5 @@
 -- Statements that make a functor: their numbers in range, what they make is lawful, and their answers.
-use Rattle.std.proofs.Common.{◌≡◌, ℕ, ◌+◌, ◌-◌, ◌<◌, Bool, true, not, ◌&&◌, eqb, ltb, List, [], ◌∷◌, ◌++◌, map, length, Option, Some, refl, sym, ap, ◌∙◌, subst, length-append, arith}
+use Rattle.std.proofs.Common.{◌≡◌, ℕ, ◌+◌, ◌-◌, ◌<◌, ◌≤◌, Bool, true, not, ◌&&◌, eqb, ltb, List, [], ◌∷◌, ◌++◌, map, length, Option, Some, None, Err, refl, sym, ap, ◌∙◌, subst, length-append, arith}
 use Rattle.std.proofs.lemmas.Bool.{and_parts, eqb-true, ltb-true}
 use Rattle.finite_lists.specs.First.{some_if}
 use Rattle.topos_model.specs.declared.stmt.Stmt.{Stmt}
@@ -12,6 +12,11 @@ use Rattle.topos_model.specs.types.Types.{Presheaf}
 use Rattle.topos_model.specs.Laws.{IsFunctor}
 use Rattle.topos_model.specs.statements.Form.{is_in_range, declares}
 use Rattle.topos_model.specs.statements.Answers.{shape_of, map_shape}
+use Rattle.topos_model.specs.statements.Cells.{presheaf_cells}
+use Rattle.functor_store.specs.declared.fault.StoreFault.{StoreFault}
+use Rattle.functor_store.specs.declared.fault.StoreFault.TheVariants.{Over, NoMemory}
+use Rattle.sealed_functors.specs.Rows.{IsOverExactly}
+use Rattle.sealed_world.specs.SealedWorlds.{world_cells, with_presheaf}
 use Rattle.topos_session.specs.declared.declarations.FunctorMap.{FunctorMap}
 use Rattle.topos_session.specs.declared.declarations.Declarations.{Declarations}
 use Rattle.topos_session.specs.declared.constructions.Construction.{Construction}
@@ -19,10 +24,11 @@ use Rattle.topos_session.specs.declared.stop.Stop.{Stop}
 use Rattle.topos_session.specs.declared.stop.Stop.TheVariants as stop
 use Rattle.topos_session.specs.Declarations.{declared_map, no_map, map_at, IsFunctorMap, AreLawful, with_functor}
 use Rattle.topos_session.specs.Constructions.{is_construction, from, to, property, fit, IsMade, IsUnmade}
-use Rattle.topos_session.specs.Statements.{AnswersOver, Builds, refusal_over, IsAnsweredOver, IsStoppedOver}
+use Rattle.topos_session.specs.Statements.{AnswersOver, Builds, refusal_over, IsAnsweredOver, IsOverBudget, by_answer, IsStoppedOver, store_stop}
 use Rattle.topos_session.specs.Variables.{AreFunctors}
 use Rattle.topos_session.proofs.SessionSteps.{one_more}
-use Rattle.topos_session.proofs.LawfulDeclarations.{all_of_one, all_of_two, to_newest, from_newest, lawful_functor, functor_cost}
+use Rattle.topos_session.proofs.LawfulDeclarations.{all_of_one, all_of_two, to_newest, from_newest, lawful_functor}
+use Rattle.topos_session.proofs.NoTypes.{needs-construction, sealed_already, types_free}
 
 -- three tests that pass
 pub record AreWithin (z n x y l : ℕ) : Type 0 where
@@ -76,10 +82,10 @@ record IsConstructed (k : Category) (functors : List Presheaf) (stmt : Stmt) (Z 
 
 module _ (k : Category) (so : Declarations) (lawful : AreLawful k so) where
   abbrev fs : List Presheaf
-  fs = so.functors
+  fs = so.world.functors
 
   abbrev Ranged : Stmt → Type 0
-  Ranged stmt = is_in_range k.objects k.ends (length so.functors) (length so.maps) stmt ≡ true
+  Ranged stmt = is_in_range k.objects k.ends (length so.world.functors) (length so.maps) stmt ≡ true
 
   with_two : (stmt : Stmt) (Z : Presheaf) (maps : List FunctorMap) (a b : FunctorMap) → maps ≡ a ∷ b ∷ [] → declares stmt ≡ Some (1, 2) → IsFunctor k Z
       → IsFunctorMap k (fs ++ Z ∷ []) a → IsFunctorMap k (fs ++ Z ∷ []) b → IsConstructed k fs stmt Z maps
@@ -165,25 +171,36 @@ module _ (k : Category) (so : Declarations) (lawful : AreLawful k so) where
   unfit (Empty z) kind = refl
   unfit _ kind = cc
 
-  module _ (budget : ℕ) (stmt : Stmt) (kind : is_construction stmt ≡ true) (range : Ranged stmt) where
-    pub construction_answered : (construction : Construction) (answer : Answer) → IsMade k budget (fit k so stmt) (property k so stmt) construction
+  module _ (room : ℕ) (stmt : Stmt) (kind : is_construction stmt ≡ true) (range : Ranged stmt) (fits : world_cells so.world ≤ so.world.budget) where
+    fit_ends : fit k so stmt ≡ true → refusal_over k so stmt ≡ None
+    fit_ends parallel = unfit stmt kind ∙ ap (λ (b : Bool). some_if (not b) NotParallel) parallel
+
+    -- what has the property, as an answer
+    with_property : (Z : Presheaf) (maps : List FunctorMap) → property k so stmt Z maps → AnswersOver k so stmt (Built (shape_of k Z) (map (λ m. map_shape (declared_map m)) maps)) (with_functor so Z maps)
+    with_property Z maps has = builds_answer stmt _ _ kind (record { functor = Z; maps = maps; property = has; shown = refl; declared = refl })
+
+    pub construction_answered : (construction : Construction) (answer : Answer) → IsMade k room (fit k so stmt) (property k so stmt) construction
         → answer ≡ Built (shape_of k construction.functor) (map (λ m. map_shape (declared_map m)) construction.maps)
-        → IsAnsweredOver k budget so stmt answer (with_functor so construction.functor construction.maps)
-    construction_answered construction answer is shown =
+        → world_cells (with_presheaf so.world construction.functor) ≤ so.world.budget
+        → IsAnsweredOver k so stmt answer (with_functor so construction.functor construction.maps)
+    construction_answered construction answer is shown within =
         let Z = construction.functor in
         let maps = construction.maps in
         let c : IsConstructed k fs stmt Z maps = constructed stmt Z maps kind range is.property in
         let longer : length (fs ++ Z ∷ []) ≡ length fs + 1 = length-append fs (Z ∷ []) in
         let more : length (so.maps ++ maps) ≡ length so.maps + length maps = length-append so.maps maps in
         record {
-          accepted = unfit stmt kind ∙ ap (λ (b : Bool). some_if (not b) NotParallel) is.parallel;
+          accepted = fit_ends is.parallel;
+          mid = so;
+          sealed = sealed_already so stmt (needs-construction stmt kind);
+          types_fit = types_free so stmt (needs-construction stmt kind) fits;
           answers = builds_answer stmt answer _ kind (record { functor = Z; maps = maps; property = is.property; shown = shown; declared = refl });
-          within = rw (functor_cost k so Z maps) is.within;
+          within = within;
           lawful = lawful_functor k so lawful Z maps c.functor c.natural;
           declared = c.counts ∙ counted (length (fs ++ Z ∷ [])) (length (so.maps ++ maps)) (length maps) longer more;
           functors = omega (arith, longer);
           maps = omega (arith, more);
-          others = omega arith;
+          kept = (refl, refl, refl);
         }
       where
         counted : (a b m : ℕ) → a ≡ length fs + 1 → b ≡ length so.maps + m → ◌≡◌ {A = Option (ℕ × ℕ)} (Some (1, m)) (Some (a - length fs, b - length so.maps))
@@ -192,14 +209,22 @@ module _ (k : Category) (so : Declarations) (lawful : AreLawful k so) where
             at : (c d : ℕ) → 1 ≡ c → m ≡ d → ◌≡◌ {A = Option (ℕ × ℕ)} (Some (1, m)) (Some (c, d))
             at c d e f = rw (e, f) refl
 
-    pub construction_stopped : (s : Stop) → IsUnmade k budget (fit k so stmt) (property k so stmt) s → IsStoppedOver k budget so stmt s
-    construction_stopped (stop.Refused fault) (is, unfits) =
+    -- what has the property does not fit
+    pub construction_over : (Z : Presheaf) (maps : List FunctorMap) → fit k so stmt ≡ true → property k so stmt Z maps → so.world.budget < world_cells (with_presheaf so.world Z) → IsOverBudget k so stmt
+    construction_over Z maps parallel has over =
+        by_answer so _ (with_functor so Z maps) (fit_ends parallel) (sealed_already so stmt (needs-construction stmt kind)) (types_free so stmt (needs-construction stmt kind) fits)
+        (with_property Z maps has) refl refl over
+
+    pub construction_stopped : (s : Stop) → IsUnmade k room (fit k so stmt) (property k so stmt) s → room + world_cells so.world ≡ so.world.budget
+        → ((X : Presheaf) → world_cells (with_presheaf so.world X) ≡ world_cells so.world + presheaf_cells k X) → IsStoppedOver k so stmt s
+    construction_stopped (stop.Refused fault) (is, unfits) left next =
         unfit stmt kind ∙ ap (λ (b : Bool). some_if (not b) NotParallel) unfits ∙ ap (λ f. Some f) (sym is)
-    construction_stopped stop.Budget large = record {
-      accepted = unfit stmt kind ∙ ap (λ (b : Bool). some_if (not b) NotParallel) large.parallel;
-      answer = Built (shape_of k large.functor) (map (λ m. map_shape (declared_map m)) large.maps);
-      after = with_functor so large.functor large.maps;
-      answers = builds_answer stmt _ _ kind (record { functor = large.functor; maps = large.maps; property = large.property; shown = refl; declared = refl });
-      over = rw (functor_cost k so large.functor large.maps) large.over;
-    }
-    construction_stopped stop.NoMemory none = tt
+    construction_stopped stop.Budget large left next =
+        construction_over large.functor large.maps large.parallel large.property (let o = large.over in let n = next large.functor in omega (arith, o, n, left))
+    construction_stopped stop.NoMemory none left next = tt
+
+    -- a fault of the store
+    pub construction_unstored : (construction : Construction) (fault : StoreFault) → IsMade k room (fit k so stmt) (property k so stmt) construction
+        → IsOverExactly {A = Unit {0}} (Err fault) (so.world.budget < world_cells (with_presheaf so.world construction.functor)) → IsStoppedOver k so stmt (store_stop fault)
+    construction_unstored construction Over is over = construction_over construction.functor construction.maps is.parallel is.property over
+    construction_unstored construction NoMemory is over = tt

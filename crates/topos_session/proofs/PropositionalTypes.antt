@@ -20,7 +20,7 @@ use denote.Hole.Carrier
 use Rattle.topos_model.specs.declared.ty.Ty.TheBlock.{hidden-the_row-Ty-0}
 
 -- a type that names a functor is that functor
-named_type : (T : Ty) → is_named T ≡ true → T ≡ Base (named T)
+pub named_type : (T : Ty) → is_named T ≡ true → T ≡ Base (named T)
 unfolding is_named named hidden-the_row-Ty-0 Carrier.hidden
 named_type (Base n) h = refl
 named_type _ h = cc
@@ -35,7 +35,7 @@ named_at (T ∷ Γ) (suc i) n all is =
     let (first, rest) = and_parts _ _ all in
     named_at Γ i n rest is
 
-variable_typed : (maps : List MapTy) (Γ : List Ty) (t : Term) (n : ℕ) → list_all is_named Γ ≡ true → variable_functor (map named Γ) t ≡ Some n → typed maps Γ t ≡ Ok (Base n)
+pub variable_typed : (maps : List MapTy) (Γ : List Ty) (t : Term) (n : ℕ) → list_all is_named Γ ≡ true → variable_functor (map named Γ) t ≡ Some n → typed maps Γ t ≡ Ok (Base n)
 unfolding typed variable_functor
 variable_typed maps Γ (Var i) n all is = ap Ok (named_at Γ i n all is)
 variable_typed maps Γ _ n all is = cc

@@ -53,8 +53,7 @@ one_answered doc budget answers p q answer before step = record {
       (rw (step.moved.0, step.moved.1, step.moved.2, ← add_assoc p.doc.site_len p.answered 1) at runs))));
 }
 
-whole_end : (p : Progress) → Runs today p.doc p.budget p.declared (p.doc.site_len + p.answered + 1) [] [] (Whole 0)
-unfolding counted
+whole_end : (p : Progress) → Runs today p.doc p.budget p.declared (p.doc.site_len + p.answered + 1) [] [] (Whole (counted today p.doc p.declared))
 whole_end p = ended
 
 -- a run to its end, of the document that is handed back
@@ -63,10 +62,10 @@ ended_by doc back budget answers end is whole =
     subst (λ (d : Doc). StagedRunOf d budget answers end) (sym is) (subst (λ (l : List Answer). StagedRunOf doc budget l end) (append-nil answers) whole)
 
 -- all statements are answered
-pub all_answered : (doc back : Doc) (budget : ℕ) (answers : List Answer) (p : Progress) → HasAnswered doc budget answers p → length p.doc.stmts ≤ p.answered → back ≡ p.doc →
-    StagedRunOf back budget answers (Whole 0)
-all_answered doc back budget answers p before done is =
-    ended_by doc back budget answers (Whole 0) (is ∙ before.same) (before.goes_on [] (Whole 0) (rw (drop_all p.answered p.doc.stmts done) (whole_end p)))
+pub all_answered : (doc back : Doc) (budget : ℕ) (answers : List Answer) (p : Progress) (cells : ℕ) → HasAnswered doc budget answers p → length p.doc.stmts ≤ p.answered → back ≡ p.doc → cells ≡ counted today p.doc p.declared →
+    StagedRunOf back budget answers (Whole cells)
+all_answered doc back budget answers p cells before done is all =
+    ended_by doc back budget answers (Whole cells) (is ∙ before.same) (before.goes_on [] (Whole cells) (rw (drop_all p.answered p.doc.stmts done, all) (whole_end p)))
 
 -- the next statement is refused
 pub refused_next : (doc back : Doc) (budget : ℕ) (answers : List Answer) (p : Progress) (number : ℕ) (fault : Fault) → HasAnswered doc budget answers p → IsStop p (Stop.Refused fault) →

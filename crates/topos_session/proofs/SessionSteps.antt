@@ -1,11 +1,12 @@
 -- What holds of a session when it begins, and behind each statement.
-use Rattle.std.proofs.Common.{◌≡◌, ℕ, ◌+◌, ◌-◌, ◌<◌, ◌≤◌, true, List, [], ◌∷◌, ◌++◌, length, get_or, drop, slice_get, Option, Some, None, refl, sym, ◌∙◌, subst, inl, inr, length-append, arith}
+use Rattle.std.proofs.Common.{◌≡◌, ℕ, ◌+◌, ◌-◌, ◌<◌, ◌≤◌, Bool, true, false, eqb, List, [], ◌∷◌, ◌++◌, map, filter, length, get_or, take, drop, slice_get, Option, Some, None, refl, sym, ap, ◌∙◌, subst, inl, inr, length-append, arith}
+use Rattle.std.specs.List.{flat_map}
 use Rattle.std.proofs.Math.Nat.{eq-or-lt_of_le}
+use Rattle.finite_lists.specs.Members.{In}
 use Rattle.std.proofs.Math.ListN.{get_or-append}
 use Rattle.std.proofs.Math.Seq.{get_or-append_seam}
-use Rattle.std.proofs.lemmas.Bool.{and_parts}
+use Rattle.std.proofs.lemmas.Bool.{and_parts, true≢false}
 use Rattle.std.proofs.lemmas.Option.{get_or_from_slice_get, slice_get_within}
-use Rattle.natural_maps.specs.Room.{max_room}
 use Rattle.topos_model.specs.declared.doc.Doc.{Doc}
 use Rattle.topos_model.specs.declared.stmt.Stmt.{Stmt}
 use Rattle.topos_model.specs.categories.Category.{Category}
@@ -15,36 +16,62 @@ use Rattle.topos_model.specs.categories.Listed.{all_ends}
 use Rattle.topos_model.specs.categories.Filling.{filled_category}
 use Rattle.topos_model.specs.categories.CategoryFaults.{category_fault}
 use Rattle.topos_model.specs.statements.Form.{is_in_range, declares, are_in_range, has_range, is_trivial}
+use Rattle.topos_model.specs.declared.ty.Ty.{Ty}
+use Rattle.topos_model.specs.topologies.Cover.{Site}
+use Rattle.topos_model.specs.statements.Needs.{under, needs}
+use Rattle.topos_model.specs.statements.Cells.{types_under}
+use Rattle.topos_model.specs.statements.Declarations.{category_of, site_of}
+use Rattle.sealed_world.specs.SealedWorlds.{CountedWorld, bare_world, world_cells}
+use Rattle.topos_session.specs.declared.declarations.FunctorMap.{FunctorMap}
 use Rattle.topos_session.specs.declared.declarations.Declarations.{Declarations}
 use Rattle.topos_session.specs.Variables.{AreFunctors, none}
-use Rattle.topos_session.specs.Declarations.{AreLawful, none_declared}
-use Rattle.topos_session.specs.Progress.{IsUnderWay}
+use Rattle.topos_session.specs.Declarations.{AreLawful, IsKept, none_declared}
+use Rattle.topos_session.specs.Progress.{types_by, AreCounted, IsUnderWay}
+use Rattle.topos_session.proofs.StatementForms.{declares_few}
 use Rattle.topos_session.proofs.DocumentRanges.{ranges, are_in_range-from, unasked}
 
 -- nothing that is declared breaks the laws
-none_lawful : (k : Category) → AreLawful k none_declared
-none_lawful k = record { functors = λ n low. absurd (none_below n low); maps = λ n low. absurd (none_below n low) }
+none_lawful : (k : Category) (s : Site) (budget : ℕ) → AreLawful k (none_declared s budget)
+none_lawful k s budget = record { functors = λ n low. absurd (none_below n low); maps = λ n low. absurd (none_below n low) }
   where
     none_below : (n : ℕ) → n < 0 → ⊥
     none_below n low = omega arith
 
-pub begins : (doc : Doc) (k : Category) (budget : ℕ) → has_range doc ≡ true → category_fault doc.cat ≡ None → is_trivial doc.tops ≡ true → k ≡ filled_category doc.cat → budget ≤ max_room →
-    IsUnderWay doc k none_declared budget 0
-begins doc k budget range faultless covers filled room = record {
-  range = range;
-  faultless = faultless;
-  covers = covers;
-  category = filled;
-  lawful = none_lawful k;
-  room = room;
-  within = omega arith;
-  few = omega arith;
-  rest = (ranges doc range).statements;
-}
+-- nothing is counted yet
+no_types : (doc : Doc) → types_under 0 (types_by doc 0) ≡ []
+unfolding types_under
+no_types doc = ap (λ (l : List Stmt). flat_map (λ (entry : ℕ × List Ty). entry.1) (filter (λ (entry : ℕ × List Ty). eqb entry.0 0) (map (λ stmt. (under stmt, needs [] stmt)) l))) (nothing doc.stmts)
+  where
+    nothing : (l : List Stmt) → take 0 l ≡ []
+    nothing [] = refl
+    nothing (x ∷ l) = refl
 
-module _ (doc : Doc) (k : Category) (so : Declarations) (budget i : ℕ) (stmt : Stmt) (way : IsUnderWay doc k so budget i) (next : slice_get doc.stmts i ≡ Some stmt) where
+pub begins : (doc : Doc) (budget : ℕ) (world : CountedWorld) (maps : List FunctorMap) → has_range doc ≡ true → category_fault doc.cat ≡ None → is_trivial doc.tops ≡ true →
+    world ≡ bare_world (site_of doc 0) budget → maps ≡ [] → world_cells world ≤ world.budget → IsUnderWay doc (record { world = world; maps = maps }) 0 true
+begins doc budget world maps range faultless covers bare none fits =
+    let so = none_declared (site_of doc 0) budget in
+    let is : ◌≡◌ {A = Declarations} (record { world = world; maps = maps }) so = rw (bare, none) refl in
+    subst (λ (x : Declarations). IsUnderWay doc x 0 true) (sym is) (record {
+      range = range;
+      faultless = faultless;
+      covers = covers;
+      site = refl;
+      lawful = none_lawful (site_of doc 0).category (site_of doc 0) budget;
+      within = omega arith;
+      few = omega arith;
+      fits = λ live. subst (λ (w : CountedWorld). world_cells w ≤ w.budget) bare fits;
+      counted = λ live. record { sealed = λ T i u. subst (λ l. In l T) (no_types doc) i; only = λ T i. absurd i };
+      rest = (ranges doc range).statements;
+    })
+
+-- the category of the site
+pub category_is : (doc : Doc) (so : Declarations) (i : ℕ) (live : Bool) → IsUnderWay doc so i live → so.world.site.category ≡ filled_category doc.cat
+unfolding site_of category_of
+category_is doc so i live way = ap (λ (s : Site). s.category) way.site
+
+module _ (doc : Doc) (so : Declarations) (i : ℕ) (live : Bool) (stmt : Stmt) (way : IsUnderWay doc so i live) (next : slice_get doc.stmts i ≡ Some stmt) where
   abbrev n : ℕ
-  n = length so.functors
+  n = length so.world.functors
 
   abbrev l : ℕ
   l = length so.maps
@@ -65,27 +92,45 @@ module _ (doc : Doc) (k : Category) (so : Declarations) (budget i : ℕ) (stmt :
       at (Some made) e = (next_and_rest made e).0
       at None e = unasked doc.cat.objects (all_ends doc.cat) n l stmt e
 
-  pub next_in_range : is_in_range k.objects k.ends n l stmt ≡ true
+  pub next_in_range : is_in_range so.world.site.category.objects so.world.site.category.ends n l stmt ≡ true
   unfolding filled_category
-  next_in_range = rw way.category next_listed
+  next_in_range = subst (λ (k : Category). is_in_range k.objects k.ends n l stmt ≡ true) (sym (category_is doc so i live way)) (at_filled next_listed)
+    where
+      at_filled : is_in_range doc.cat.objects (all_ends doc.cat) n l stmt ≡ true → is_in_range (filled_category doc.cat).objects (filled_category doc.cat).ends n l stmt ≡ true
+      at_filled e = e
 
-  pub goes_on : (after : Declarations) → AreLawful k after → declares stmt ≡ Some (length after.functors - n, length after.maps - l) → n ≤ length after.functors → l ≤ length after.maps →
-      after.others ≤ so.others + budget → IsUnderWay doc k after budget (i + 1)
-  goes_on after lawful declared functors maps others =
-      let few = way.few in
-      let room = way.room in
-      let same : (n + (length after.functors - n) ≡ length after.functors) × (l + (length after.maps - l) ≡ length after.maps) = (omega arith, omega arith) in
+  pub goes_on : (after : Declarations) → after.world.site ≡ so.world.site → AreLawful so.world.site.category after → declares stmt ≡ Some (length after.world.functors - n, length after.maps - l)
+      → n ≤ length after.world.functors → l ≤ length after.maps → world_cells after.world ≤ after.world.budget → AreCounted (types_under 0 (types_by doc (i + 1))) after.world → IsUnderWay doc after (i + 1) live
+  goes_on after site lawful declared functors maps fits counted =
+      let same : (n + (length after.world.functors - n) ≡ length after.world.functors) × (l + (length after.maps - l) ≡ length after.maps) = (omega arith, omega arith) in
       record {
         range = way.range;
         faultless = way.faultless;
         covers = way.covers;
-        category = way.category;
-        lawful = lawful;
-        room = way.room;
+        site = site ∙ way.site;
+        lawful = subst (λ (s : Site). AreLawful s.category after) (sym site) lawful;
         within = omega (arith, low);
-        few = omega arith;
-        rest = rw (same.0, same.1) at (next_and_rest (length after.functors - n, length after.maps - l) declared).1;
+        few = let few = way.few in let one = declares_few stmt _ _ declared in omega (arith, few, one, functors);
+        fits = λ live. fits;
+        counted = λ live. counted;
+        rest = rw (same.0, same.1) at (next_and_rest (length after.world.functors - n, length after.maps - l) declared).1;
       }
+
+  -- where the run stops, types may have been sealed
+  pub stops : (after : Declarations) → IsKept so after → IsUnderWay doc after i false
+  stops after kept =
+      subst (λ (x : Declarations). IsUnderWay doc x i false) (sym kept.is) (record {
+        range = way.range;
+        faultless = way.faultless;
+        covers = way.covers;
+        site = way.site;
+        lawful = record { functors = way.lawful.functors; maps = way.lawful.maps };
+        within = way.within;
+        few = way.few;
+        fits = λ live. absurd (true≢false (sym live));
+        counted = λ live. absurd (true≢false (sym live));
+        rest = way.rest;
+      })
 
 -- one more behind others
 pub one_more_of : {A : Type 0} (P : A → Type 0) (d : A) (xs : List A) (x : A) → ((n : ℕ) → n < length xs → P (get_or xs n d)) → P x → (n : ℕ) → n < length (xs ++ x ∷ []) → P (get_or (xs ++ x ∷ []) n d)

@@ -45,7 +45,7 @@ trivial_site [] trivial = cc
 trivial_site (top ∷ []) trivial = let (dense, covers) = and_parts _ _ trivial in (not_true top.dense dense, no_items top.covers covers)
 trivial_site (top ∷ other ∷ rest) trivial = cc
 
-one_topology : (tops : List TopDecl) → is_trivial tops ≡ true → length tops ≡ 1
+pub one_topology : (tops : List TopDecl) → is_trivial tops ≡ true → length tops ≡ 1
 one_topology [] trivial = cc
 one_topology (top ∷ []) trivial = refl
 one_topology (top ∷ other ∷ rest) trivial = cc

@@ -39,7 +39,7 @@ use Rattle.topos_model.specs.statements.Built.{is_built}
 use Rattle.topos_session.specs.Variables.{presheaf_world}
 use Rattle.topos_session.specs.declared.declarations.FunctorMap.{FunctorMap}
 use Rattle.topos_session.specs.declared.declarations.Declarations.{Declarations}
-use Rattle.topos_session.specs.Declarations.{declared_map, with_counted, AreLawful, made, no_map}
+use Rattle.topos_session.specs.Declarations.{declared_map, with_counted, AreLawful, no_map}
 use Rattle.topos_session.specs.Declarations as session
 use Rattle.topos_session.specs.Constructions.{is_construction, between, from, to, fit}
 use Rattle.topos_session.specs.Statements.{AnswersOver, Builds, refusal_over}
@@ -57,7 +57,7 @@ module _ (doc : Doc) (trivial : is_trivial doc.tops ≡ true) (so : Declarations
   d = with_counted so types
 
   abbrev fs : List Functor
-  fs = so.functors
+  fs = so.world.functors
 
   abbrev Ranged : Stmt → Type 0
   Ranged stmt = is_in_range k.objects k.ends (length fs) (length so.maps) stmt ≡ true
@@ -212,7 +212,7 @@ module _ (doc : Doc) (trivial : is_trivial doc.tops ≡ true) (so : Declarations
         b.shown ∙ ap (λ (l : List FunctorMap). Built (shape_of k Z) (map (λ m. map_shape (declared_map m)) l)) e ∙ ap (Built (shape_of k Z)) (fused maps),
         ap (λ (so : Declarations). with_counted so types) b.declared
             ∙ ap (λ (l : List FunctorMap). with_counted (session.with_functor so Z l) types) e
-            ∙ ap (λ (l : List DeclaredMap). record { functors = fs ++ Z ∷ []; maps = l; cat_functors = []; on_functors = []; types = types; others = so.others }) (map-append declared_map so.maps maps),
+            ∙ ap (λ (l : List DeclaredMap). record { functors = fs ++ Z ∷ []; maps = l; cat_functors = []; on_functors = []; types = types; others = so.world.charges }) (map-append declared_map so.maps maps),
       )
 
   -- the answers, a form of statement at a time
@@ -229,7 +229,7 @@ module _ (doc : Doc) (trivial : is_trivial doc.tops ≡ true) (so : Declarations
     map_answers m x y raw over = (
       over.0,
       ap (λ (so : Declarations). with_counted so types) over.1
-          ∙ ap (λ (l : List DeclaredMap). record { functors = fs; maps = l; cat_functors = []; on_functors = []; types = types; others = so.others }) (map-append declared_map so.maps (between x y (listed_map k (functor_at d x) raw) ∷ [])),
+          ∙ ap (λ (l : List DeclaredMap). record { functors = fs; maps = l; cat_functors = []; on_functors = []; types = types; others = so.world.charges }) (map-append declared_map so.maps (between x y (listed_map k (functor_at d x) raw) ∷ [])),
     )
 
     hom_answers : (x y : ℕ) → AnswersOver k so (Hom x y) answer after → Answers doc d (Hom x y) answer next
@@ -383,3 +383,20 @@ module _ (doc : Doc) (trivial : is_trivial doc.tops ≡ true) (so : Declarations
     answers_are (Pushout m n z p q) range built b =
         let w = pushout_range k.objects k.ends (length fs) (length so.maps) m n z p q range in pushout_answers m w.first n w.second z p q b
     answers_are _ range built over = absurd (true≢false (sym built))
+
+-- a statement that is run is under the first topology
+pub built_under : (stmt : Stmt) → is_built stmt ≡ true → under stmt ≡ 0
+unfolding is_built under
+built_under (Show j ctx φ) built = (built_formula j ctx φ built).first_topology
+built_under (Presheaf functor raw) built = refl
+built_under (Map m x y raw) built = refl
+built_under (Product x y z p q) built = refl
+built_under (Coproduct x y z p q) built = refl
+built_under (Equalizer m n z i) built = refl
+built_under (Coequalizer m n z i) built = refl
+built_under (Pullback m n z p q) built = refl
+built_under (Pushout m n z p q) built = refl
+built_under (Image m z p q) built = refl
+built_under (Empty z) built = refl
+built_under (Hom x y) built = refl
+built_under _ built = cc

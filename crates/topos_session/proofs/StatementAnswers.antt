@@ -1,5 +1,6 @@
 -- The answers of statements and their refusals, over what is declared before them.
-use Rattle.std.proofs.Common.{◌≡◌, ℕ, ◌+◌, ◌-◌, ◌<◌, ◌≤◌, Bool, true, false, ◌&&◌, eqb, List, [], ◌∷◌, ◌++◌, map, reverse, length, Option, Some, None, refl, ap, ◌∙◌, length-append, arith}
+use Rattle.std.proofs.Common.{◌≡◌, ℕ, ◌+◌, ◌-◌, ◌<◌, ◌≤◌, Bool, true, false, ◌&&◌, eqb, List, [], ◌∷◌, ◌++◌, map, reverse, length, Option, Some, None, Err, inl, inr, refl, sym, ap, subst, ◌∙◌, length-append, arith}
+use Rattle.std.proofs.lemmas.Bool.{cases_lt}
 use Rattle.std.specs.List.{list_all, range_with_len}
 use Rattle.topos_model.specs.declared.raw.RawFunctor.{RawFunctor}
 use Rattle.topos_model.specs.declared.raw.RawMap.{RawMap}
@@ -19,8 +20,10 @@ use Rattle.topos_model.specs.presheaves.NaturalMaps.{maps}
 use Rattle.topos_model.specs.presheaves.PresheafFaults.{presheaf_fault}
 use Rattle.topos_model.specs.presheaves.MapFaults.{listed_map, map_fault}
 use Rattle.topos_model.specs.formulas.Forcing.{shown}
-use Rattle.topos_model.specs.statements.Needs.{named}
-use Rattle.topos_model.specs.statements.Cells.{is_named, presheaf_cells, hom_cells}
+use Rattle.finite_lists.specs.Members.{In}
+use Rattle.topos_model.specs.declared.ty.Ty.{Ty}
+use Rattle.topos_model.specs.statements.Needs.{named, needs}
+use Rattle.topos_model.specs.statements.Cells.{is_named, hom_cells}
 use Rattle.topos_model.specs.statements.Form.{is_propositional, declares}
 use Rattle.topos_model.specs.statements.Built.{is_built}
 use Rattle.topos_model.specs.statements.Answers.{tuple_of, map_shape, functor_map}
@@ -30,6 +33,11 @@ use Rattle.presheaf_core.specs.Faults.{IsFaultOf}
 use Rattle.natural_maps.specs.declared.fault.MapFault.{MapFault}
 use Rattle.natural_maps.specs.declared.fault.MapFault.TheVariants as map
 use Rattle.natural_maps.specs.Faults.{IsFaultOf as IsMapFaultOf}
+use Rattle.functor_store.specs.declared.fault.StoreFault.{StoreFault}
+use Rattle.functor_store.specs.declared.fault.StoreFault.TheVariants.{Over, NoMemory as OutOfMemory}
+use Rattle.sealed_functors.specs.Rows.{IsOverExactly}
+use Rattle.sealed_world.specs.SealedWorlds.{CountedWorld, counted_cells, world_cells, cells_with, IsGrownBy}
+use Rattle.sealed_world.specs.SealedWorlds as world
 use Rattle.topos_session.specs.declared.declarations.Declarations.{Declarations}
 use Rattle.topos_session.specs.declared.stop.Stop.{Stop}
 use Rattle.topos_session.specs.declared.stop.Stop.TheVariants as stop
@@ -38,9 +46,13 @@ use Rattle.topos_session.specs.Variables.{functor_at, presheaf_world}
 use Rattle.topos_session.specs.Declarations.{AreLawful, with_presheaf, with_map, with_cells}
 use Rattle.topos_session.specs.Constructions.{is_construction, between}
 use Rattle.topos_session.specs.Homs.{IsHom, IsUnlisted}
-use Rattle.topos_session.specs.Statements.{refusal_over, IsAnsweredOver, IsStoppedOver, IsOverBudget, presheaf_stop, map_stop}
+use Rattle.topos_session.specs.Statements.{refusal_over, IsAnsweredOver, IsStoppedOver, IsOverBudget, by_types, by_answer, presheaf_stop, map_stop, store_stop}
 use Rattle.topos_session.proofs.StatementForms.{declares-Presheaf, declares-Map, declares-Hom, declares-Show}
-use Rattle.topos_session.proofs.LawfulDeclarations.{lawful_presheaf, lawful_map, lawful_cells, presheaf_cost, listed_cost, no_cost}
+use Rattle.topos_session.proofs.LawfulDeclarations.{lawful_presheaf, lawful_map, lawful_cells, lawful_sealed}
+use Rattle.topos_session.proofs.NoTypes.{needs-Presheaf, needs-Map, needs-Hom, sealed_already, types_free}
+use Rattle.topos_session.proofs.ShownTypes.{shown_needs, needs_shown, shown_needed, statement_needs}
+use Rattle.topos_session.proofs.PropositionalTypes.{IsBuiltFormula, built_formula, named_reversed}
+use Rattle.sealed_world.proofs.Growing.{not_grown, grown_more, no_more, no_less}
 
 -- the counts of what a statement declares
 counts : (a b m n : ℕ) → ◌≡◌ {A = Option (ℕ × ℕ)} (Some (a, b)) (Some (m + a - m, n + b - n))
@@ -49,122 +61,168 @@ counts a b m n = same (m + a - m) (n + b - n) (omega arith) (omega arith)
     same : (c d : ℕ) → a ≡ c → b ≡ d → ◌≡◌ {A = Option (ℕ × ℕ)} (Some (a, b)) (Some (c, d))
     same c d e f = rw (e, f) refl
 
-module _ (k : Category) (budget : ℕ) (so : Declarations) where
+module _ (k : Category) (so : Declarations) where
   -- what is counted behind a statement that declares this many functors and maps
-  declared_counts : (stmt : Stmt) (a b : ℕ) (after : Declarations) → declares stmt ≡ Some (a, b) → length after.functors ≡ length so.functors + a → length after.maps ≡ length so.maps + b →
-      declares stmt ≡ Some (length after.functors - length so.functors, length after.maps - length so.maps)
-  declared_counts stmt a b after e functors maps = rw (functors, maps) (e ∙ counts a b (length so.functors) (length so.maps))
+  declared_counts : (stmt : Stmt) (a b : ℕ) (after : Declarations) → declares stmt ≡ Some (a, b) → length after.world.functors ≡ length so.world.functors + a → length after.maps ≡ length so.maps + b →
+      declares stmt ≡ Some (length after.world.functors - length so.world.functors, length after.maps - length so.maps)
+  declared_counts stmt a b after e functors maps = rw (functors, maps) (e ∙ counts a b (length so.world.functors) (length so.maps))
 
-  -- a presheaf that is lawful is declared
-  module _ (functor : ℕ) (raw : RawFunctor) (X : Functor) (listed : X ≡ filled_presheaf k raw) (faultless : presheaf_fault k raw ≡ None) where
-    pub presheaf_declared : AreLawful k so → IsFunctor k X → presheaf_cells k X ≤ budget → IsAnsweredOver k budget so (Presheaf functor raw) Quiet (with_presheaf so X)
-    presheaf_declared lawful here within =
-        let longer : length (so.functors ++ X ∷ []) ≡ length so.functors + 1 = length-append so.functors (X ∷ []) in
-        record {
-          accepted = faultless;
-          answers = (refl, ap (with_presheaf so) listed);
-          within = rw (presheaf_cost k so X) within;
-          lawful = lawful_presheaf k so lawful X here;
-          declared = declared_counts (Presheaf functor raw) 1 0 (with_presheaf so X) (declares-Presheaf functor raw) longer (omega arith);
-          functors = omega arith;
-          maps = omega arith;
-          others = omega arith;
-        }
+  module _ (fits : world_cells so.world ≤ so.world.budget) where
+    -- a presheaf that is lawful is declared
+    module _ (functor : ℕ) (raw : RawFunctor) (X : Functor) (listed : X ≡ filled_presheaf k raw) (faultless : presheaf_fault k raw ≡ None) where
+      pub presheaf_declared : AreLawful k so → IsFunctor k X → world_cells (world.with_presheaf so.world X) ≤ so.world.budget → IsAnsweredOver k so (Presheaf functor raw) Quiet (with_presheaf so X)
+      presheaf_declared lawful here within =
+          let longer : length (so.world.functors ++ X ∷ []) ≡ length so.world.functors + 1 = length-append so.world.functors (X ∷ []) in
+          record {
+            accepted = faultless;
+            mid = so;
+            sealed = sealed_already so (Presheaf functor raw) (needs-Presheaf functor raw);
+            types_fit = types_free so (Presheaf functor raw) (needs-Presheaf functor raw) fits;
+            answers = (refl, ap (with_presheaf so) listed);
+            within = within;
+            lawful = lawful_presheaf k so lawful X here;
+            declared = declared_counts (Presheaf functor raw) 1 0 (with_presheaf so X) (declares-Presheaf functor raw) longer (omega arith);
+            functors = omega (arith, longer);
+            maps = omega arith;
+            kept = (refl, refl, refl);
+          }
 
-    pub presheaf_over : budget < presheaf_cells k X → IsOverBudget k budget so (Presheaf functor raw)
-    presheaf_over over = record {
-      accepted = faultless;
-      answer = Quiet;
-      after = with_presheaf so X;
-      answers = (refl, ap (with_presheaf so) listed);
-      over = rw (presheaf_cost k so X) over;
-    }
+      pub presheaf_unstored : (fault : StoreFault) → IsOverExactly {A = Unit {0}} (Err fault) (so.world.budget < world_cells (world.with_presheaf so.world X)) → IsStoppedOver k so (Presheaf functor raw) (store_stop fault)
+      presheaf_unstored Over over =
+          by_answer so Quiet (with_presheaf so X) faultless (sealed_already so (Presheaf functor raw) (needs-Presheaf functor raw)) (types_free so (Presheaf functor raw) (needs-Presheaf functor raw) fits)
+          (refl, ap (with_presheaf so) listed) refl refl over
+      presheaf_unstored OutOfMemory over = tt
 
-  pub presheaf_refused : (functor : ℕ) (raw : RawFunctor) (fault : FunctorFault) → IsFaultOf k raw fault → IsStoppedOver k budget so (Presheaf functor raw) (presheaf_stop fault)
+    -- a natural map is declared
+    module _ (number x y : ℕ) (raw : RawMap) where
+      pub map_declared : (m : Components) → m ≡ listed_map k (functor_at so.world.functors x) raw → map_fault k (functor_at so.world.functors x) (functor_at so.world.functors y) raw ≡ None
+          → AreLawful k so → x < length so.world.functors → y < length so.world.functors → IsNatural k (functor_at so.world.functors x) (functor_at so.world.functors y) m
+          → IsAnsweredOver k so (Map number x y raw) Quiet (with_map so (between x y m))
+      map_declared m listed faultless lawful domain codomain natural =
+          let longer : length (so.maps ++ between x y m ∷ []) ≡ length so.maps + 1 = length-append so.maps (between x y m ∷ []) in
+          record {
+            accepted = faultless;
+            mid = so;
+            sealed = sealed_already so (Map number x y raw) (needs-Map number x y raw);
+            types_fit = types_free so (Map number x y raw) (needs-Map number x y raw) fits;
+            answers = (refl, ap (λ (m : Components). with_map so (between x y m)) listed);
+            within = fits;
+            lawful = lawful_map k so lawful (between x y m) (record { dom = domain; cod = codomain; natural = natural });
+            declared = declared_counts (Map number x y raw) 0 1 (with_map so (between x y m)) (declares-Map number x y raw) (omega arith) longer;
+            functors = omega arith;
+            maps = omega (arith, longer);
+            kept = (refl, refl, refl);
+          }
+
+    -- all maps are listed
+    module _ (x y : ℕ) where
+      abbrev X : Functor
+      X = functor_at so.world.functors x
+
+      abbrev Y : Functor
+      Y = functor_at so.world.functors y
+
+      pub maps_listed : (room : ℕ) (listed : Listed) → IsHom k x y X Y room listed → AreLawful k so → world_cells (world.with_charges so.world listed.cells) ≤ so.world.budget → IsAnsweredOver k so (Hom x y) (Maps listed.shapes) (with_cells so listed.cells)
+      maps_listed room listed hom lawful within = record {
+        accepted = refl;
+        mid = so;
+        sealed = sealed_already so (Hom x y) (needs-Hom x y);
+        types_fit = types_free so (Hom x y) (needs-Hom x y) fits;
+        answers = (ap Maps hom.shapes, ap (with_cells so) hom.cells);
+        within = within;
+        lawful = lawful_cells k so lawful listed.cells;
+        declared = declared_counts (Hom x y) 0 0 (with_cells so listed.cells) (declares-Hom x y) (omega arith) (omega arith);
+        functors = omega arith;
+        maps = omega arith;
+        kept = (refl, refl, refl);
+      }
+
+      more_charged : (cells : ℕ) → world_cells (world.with_charges so.world cells) ≡ world_cells so.world + cells
+      unfolding counted_cells
+      more_charged cells = omega arith
+
+      pub maps_over : so.world.budget < world_cells so.world + hom_cells (length (maps k X Y)) X → IsOverBudget k so (Hom x y)
+      maps_over over =
+          by_answer so (Maps (map (λ m. map_shape (functor_map x y m)) (maps k X Y))) (with_cells so (hom_cells (length (maps k X Y)) X)) refl
+          (sealed_already so (Hom x y) (needs-Hom x y)) (types_free so (Hom x y) (needs-Hom x y) fits) (refl, refl) refl refl
+          (let e = more_charged (hom_cells (length (maps k X Y)) X) in omega (arith, over, e))
+
+      pub maps_unlisted : (room : ℕ) (s : Stop) → room + world_cells so.world ≡ so.world.budget → IsUnlisted k X Y room s → IsStoppedOver k so (Hom x y) s
+      maps_unlisted room (stop.Refused fault) left none = absurd none
+      maps_unlisted room stop.Budget left over = maps_over (omega (arith, over, left))
+      maps_unlisted room stop.NoMemory left none = tt
+
+  pub presheaf_refused : (functor : ℕ) (raw : RawFunctor) (fault : FunctorFault) → IsFaultOf k raw fault → IsStoppedOver k so (Presheaf functor raw) (presheaf_stop fault)
   presheaf_refused functor raw (RestrictionMissing f) found = found
   presheaf_refused functor raw (NotTotal f x) found = found
   presheaf_refused functor raw (NotFunctorial g f x) found = found
   presheaf_refused functor raw NoMemory found = tt
 
-  -- a natural map is declared
-  module _ (number x y : ℕ) (raw : RawMap) where
-    pub map_declared : (m : Components) → m ≡ listed_map k (functor_at so.functors x) raw → map_fault k (functor_at so.functors x) (functor_at so.functors y) raw ≡ None
-        → AreLawful k so → x < length so.functors → y < length so.functors → IsNatural k (functor_at so.functors x) (functor_at so.functors y) m
-        → IsAnsweredOver k budget so (Map number x y raw) Quiet (with_map so (between x y m))
-    map_declared m listed faultless lawful domain codomain natural =
-        let longer : length (so.maps ++ between x y m ∷ []) ≡ length so.maps + 1 = length-append so.maps (between x y m ∷ []) in
-        record {
-          accepted = faultless;
-          answers = (refl, ap (λ (m : Components). with_map so (between x y m)) listed);
-          within = free (no_cost k so);
-          lawful = lawful_map k so lawful (between x y m) (record { dom = domain; cod = codomain; natural = natural });
-          declared = declared_counts (Map number x y raw) 0 1 (with_map so (between x y m)) (declares-Map number x y raw) (omega arith) longer;
-          functors = omega arith;
-          maps = omega arith;
-          others = omega arith;
-        }
-      where
-        free : {n : ℕ} → n ≡ 0 → n ≤ budget
-        free e = omega arith
-
-    pub map_refused : (fault : MapFault) → IsMapFaultOf k (functor_at so.functors x) (functor_at so.functors y) raw fault → IsStoppedOver k budget so (Map number x y raw) (map_stop fault)
-    map_refused (map.NoElement c n) found = found
-    map_refused (map.MapNotTotal c a) found = found
-    map_refused (map.NotNatural f a) found = found
-    map_refused map.NoMemory found = tt
-
-  -- all maps are listed
-  module _ (x y : ℕ) where
-    abbrev X : Functor
-    X = functor_at so.functors x
-
-    abbrev Y : Functor
-    Y = functor_at so.functors y
-
-    pub maps_listed : (listed : Listed) → IsHom k x y X Y budget listed → AreLawful k so → IsAnsweredOver k budget so (Hom x y) (Maps listed.shapes) (with_cells so listed.cells)
-    maps_listed listed hom lawful = record {
-      accepted = refl;
-      answers = (ap Maps hom.shapes, ap (with_cells so) hom.cells);
-      within = rw (listed_cost k so listed.cells) hom.within;
-      lawful = lawful_cells k so lawful listed.cells;
-      declared = declared_counts (Hom x y) 0 0 (with_cells so listed.cells) (declares-Hom x y) (omega arith) (omega arith);
-      functors = omega arith;
-      maps = omega arith;
-      others = let within = hom.within in omega arith;
-    }
-
-    pub maps_unlisted : (s : Stop) → IsUnlisted k X Y budget s → IsStoppedOver k budget so (Hom x y) s
-    maps_unlisted (stop.Refused fault) none = absurd none
-    maps_unlisted stop.Budget over = record {
-      accepted = refl;
-      answer = Maps (map (λ m. map_shape (functor_map x y m)) (maps k X Y));
-      after = with_cells so (hom_cells (length (maps k X Y)) X);
-      answers = (refl, refl);
-      over = rw (listed_cost k so (hom_cells (length (maps k X Y)) X)) over;
-    }
-    maps_unlisted stop.NoMemory none = tt
+  pub map_refused : (number x y : ℕ) (raw : RawMap) (fault : MapFault) → IsMapFaultOf k (functor_at so.world.functors x) (functor_at so.world.functors y) raw fault → IsStoppedOver k so (Map number x y raw) (map_stop fault)
+  map_refused number x y raw (map.NoElement c n) found = found
+  map_refused number x y raw (map.MapNotTotal c a) found = found
+  map_refused number x y raw (map.NotNatural f a) found = found
+  map_refused number x y raw map.NoMemory found = tt
 
   -- a formula is shown, and nothing is declared
   abbrev pub shown_form : ℕ → Ctx → Term → Bool
   shown_form under ctx φ = eqb under 0 && list_all is_named ctx.types && is_propositional (map named (reverse ctx.types)) φ
 
-  pub formula_shown : (under : ℕ) (ctx written : Ctx) (φ : Term) (stages : List (List Tuple)) → written ≡ ctx
-      → stages ≡ map (λ c. map tuple_of (shown (presheaf_world k so.functors) (reverse ctx.types) φ c)) (range_with_len 0 k.objects) → shown_form under ctx φ ≡ true → AreLawful k so
-      → IsAnsweredOver k budget so (Show under ctx φ) (Shown written stages) so
-  unfolding is_built
-  formula_shown under ctx written φ stages same listed form lawful = record {
-    accepted = rw form refl;
-    answers = (rw (same, listed) refl, refl);
-    within = free (no_cost k so);
-    lawful = lawful;
-    declared = declared_counts (Show under ctx φ) 0 0 so (declares-Show under ctx φ) (omega arith) (omega arith);
-    functors = omega arith;
-    maps = omega arith;
-    others = omega arith;
-  }
-    where
-      free : {n : ℕ} → n ≡ 0 → n ≤ budget
-      free e = omega arith
+  module _ (under : ℕ) (ctx : Ctx) (φ : Term) (form : shown_form under ctx φ ≡ true) where
+    abbrev Γ : List Ty
+    Γ = reverse ctx.types
+
+    accepted_here : refusal_over k so (Show under ctx φ) ≡ None
+    unfolding is_built
+    accepted_here = rw form refl
+
+    built : IsBuiltFormula under ctx φ
+    unfolding is_built
+    built = built_formula under ctx φ form
+
+    -- what it counts are truth values and the product of its context
+    counts_no_more : (T : Ty) → In (needs [] (Show under ctx φ)) T → is_named T ≡ false → In (shown_needs Γ) T
+    counts_no_more T i u = needs_shown Γ (named_reversed ctx.types built.functors) φ built.form T (subst (λ l. In l T) (statement_needs under ctx φ) i) u
+
+    counts_no_less : (T : Ty) → In (shown_needs Γ) T → In (needs [] (Show under ctx φ)) T
+    counts_no_less T i = subst (λ l. In l T) (sym (statement_needs under ctx φ)) (shown_needed Γ (named_reversed ctx.types built.functors) φ built.form T i)
+
+    same_cost : cells_with so.world (needs [] (Show under ctx φ)) ≡ cells_with so.world (shown_needs Γ)
+    same_cost =
+        let w = so.world in
+        let more = no_less [] (shown_needs Γ) (needs [] (Show under ctx φ)) w w (not_grown [] w) (λ T i u. inr (counts_no_more T i u)) in
+        let less = no_more [] (shown_needs Γ) (needs [] (Show under ctx φ)) w w (not_grown [] w) (λ T n. absurd n) counts_no_less in
+        omega (arith, more, less)
+
+    pub formula_shown : (written : Ctx) (stages : List (List Tuple)) (mid : Declarations) → written ≡ ctx
+        → stages ≡ map (λ c. map tuple_of (shown (presheaf_world k mid.world.functors) (reverse ctx.types) φ c)) (range_with_len 0 k.objects)
+        → mid.maps ≡ so.maps → IsGrownBy (shown_needs Γ) so.world mid.world → (so.world.budget < cells_with so.world (shown_needs Γ) → ⊥) → world_cells mid.world ≤ so.world.budget → AreLawful k so
+        → IsAnsweredOver k so (Show under ctx φ) (Shown written stages) mid
+    formula_shown written stages mid same listed maps grown fit within lawful =
+        let functors : mid.world.functors ≡ so.world.functors = ap (λ (w : CountedWorld). w.functors) grown.grown.is in
+        record {
+          accepted = accepted_here;
+          mid = mid;
+          sealed = record {
+            maps = maps;
+            types = record { grown = grown_more (shown_needs Γ) so.world (needs [] (Show under ctx φ)) mid.world counts_no_less grown.grown; all = λ T i u. grown.all T (counts_no_more T i u) u };
+          };
+          types_fit = not_over same_cost fit;
+          answers = (rw (same, listed) refl, refl);
+          within = within;
+          lawful = lawful_sealed k so lawful mid functors maps;
+          declared = declared_counts (Show under ctx φ) 0 0 mid (declares-Show under ctx φ) (ap length functors ∙ omega arith) (ap length maps ∙ omega arith);
+          functors = let e = ap length functors in omega (arith, e);
+          maps = let e = ap length maps in omega (arith, e);
+          kept = (ap (λ (w : CountedWorld). w.site) grown.grown.is, refl, ap (λ (w : CountedWorld). w.budget) grown.grown.is);
+        }
+      where
+        not_over : {a b c : ℕ} → a ≡ b → (c < b → ⊥) → a ≤ c
+        not_over {a} {b} {c} e h = elim (cases_lt c b) [ inl over ↦ absurd (h over) | inr fits ↦ omega (arith, fits, e) ]
+
+    pub formula_unsealed : (fault : StoreFault) → IsOverExactly {A = Unit {0}} (Err fault) (so.world.budget < cells_with so.world (shown_needs Γ)) → IsStoppedOver k so (Show under ctx φ) (store_stop fault)
+    formula_unsealed Over over = by_types accepted_here (omega (arith, over, same_cost))
+    formula_unsealed OutOfMemory over = tt
 
   pub formula_refused : (under : ℕ) (ctx : Ctx) (φ : Term) → shown_form under ctx φ ≡ false → refusal_over k so (Show under ctx φ) ≡ Some NotBuilt
   unfolding is_built

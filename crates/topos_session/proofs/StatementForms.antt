@@ -1,5 +1,5 @@
 -- The range of a statement's numbers, and what it declares, a form of statement at a time.
-use Rattle.std.proofs.Common.{◌≡◌, ℕ, true, ◌&&◌, eqb, ltb, List, Some, None, refl}
+use Rattle.std.proofs.Common.{◌≡◌, ℕ, ◌≤◌, true, ◌&&◌, eqb, ltb, List, Option, Some, None, refl, ap, arith}
 use Rattle.std.specs.List.{list_all}
 use Rattle.topos_model.specs.declared.raw.RawFunctor.{RawFunctor}
 use Rattle.topos_model.specs.declared.raw.RawMap.{RawMap}
@@ -9,6 +9,13 @@ use Rattle.topos_model.specs.declared.stmt.Stmt.{Stmt}
 use Rattle.topos_model.specs.declared.stmt.Stmt.TheVariants.{Presheaf, Map, Product, Coproduct, Equalizer, Coequalizer, Pullback, Pushout, Image, Empty, Hom, Show}
 use Rattle.topos_session.specs.Constructions.{is_construction}
 use Rattle.topos_model.specs.statements.Form.{is_presheaf_listing, is_map_listing, is_known, declares, is_in_range}
+
+-- the number of functors in a count
+abbrev first : Option (ℕ × ℕ) → ℕ
+first o = elim o [ Some made ↦ made.0 | None ↦ 0 ]
+
+at_most : (m a : ℕ) → m ≡ a → m ≤ 1 → a ≤ 1
+at_most m a e l = omega (arith, e, l)
 
 pub range-Presheaf : (objects : ℕ) (ends : List (ℕ × ℕ)) (n l : ℕ) (functor : ℕ) (raw : RawFunctor) → is_in_range objects ends n l (Presheaf functor raw) ≡ (eqb functor n && is_presheaf_listing objects ends raw)
 unfolding is_in_range
@@ -217,3 +224,20 @@ no_other_construction (Pushout m n z i j) kind _ _ _ _ _ h _ _ = h m n z i j ref
 no_other_construction (Image m z e j) kind _ _ _ _ _ _ h _ = h m z e j refl
 no_other_construction (Empty z) kind _ _ _ _ _ _ _ h = h z refl
 no_other_construction _ kind _ _ _ _ _ _ _ _ = cc
+
+-- a statement declares one functor at most
+pub declares_few : (stmt : Stmt) (a b : ℕ) → declares stmt ≡ Some (a, b) → a ≤ 1
+unfolding declares
+declares_few (Presheaf functor raw) a b e = at_most 1 a (ap first e) (omega arith)
+declares_few (Map m x y raw) a b e = at_most 0 a (ap first e) (omega arith)
+declares_few (Product x y z p q) a b e = at_most 1 a (ap first e) (omega arith)
+declares_few (Coproduct x y z p q) a b e = at_most 1 a (ap first e) (omega arith)
+declares_few (Equalizer m n z i) a b e = at_most 1 a (ap first e) (omega arith)
+declares_few (Coequalizer m n z q) a b e = at_most 1 a (ap first e) (omega arith)
+declares_few (Pullback m n z p q) a b e = at_most 1 a (ap first e) (omega arith)
+declares_few (Pushout m n z i j) a b e = at_most 1 a (ap first e) (omega arith)
+declares_few (Image m z k j) a b e = at_most 1 a (ap first e) (omega arith)
+declares_few (Empty z) a b e = at_most 1 a (ap first e) (omega arith)
+declares_few (Hom x y) a b e = at_most 0 a (ap first e) (omega arith)
+declares_few (Show under ctx φ) a b e = at_most 0 a (ap first e) (omega arith)
+declares_few _ a b e = cc

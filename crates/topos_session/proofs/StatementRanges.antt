@@ -22,6 +22,7 @@ use Rattle.topos_model.specs.statements.Needs.{named}
 use Rattle.topos_model.specs.statements.Cells.{is_named}
 use Rattle.topos_model.specs.statements.Form.{is_functor_name, is_propositional, along_fits, is_presheaf_listing, is_map_listing, is_known, is_in_range}
 use Rattle.topos_session.proofs.DistinctNumbers.{distinct_numbers}
+use Rattle.topos_session.proofs.ForcedAlong.{In-reverse}
 use Rattle.topos_session.proofs.StatementForms.{range-Presheaf, range-Map, range-Hom, range-Show}
 
 -- a listed presheaf has sizes for all objects, and restrictions of elements to elements
@@ -108,6 +109,13 @@ names_declared n _ known named = cc
 pub all_declared : (n : ℕ) (types : List Ty) → list_all (is_known n) types ≡ true → list_all is_named types ≡ true → list_all (is_functor_name n) types ≡ true
 all_declared n types known named =
     each_all (is_functor_name n) types (λ T i. names_declared n T (all_each (is_known n) types T known i) (all_each is_named types T named i))
+
+known_below : (n m : ℕ) → is_known n (Base m) ≡ true → m < n
+unfolding is_known hidden-the_row-Ty-0 Carrier.hidden
+known_below n m h = ltb-true m n h
+
+pub known_names : (n : ℕ) (types : List Ty) → list_all (is_known n) types ≡ true → (m : ℕ) → In (reverse types) (Base m) → m < n
+known_names n types known m i = known_below n m (all_each (is_known n) types (Base m) known (In-reverse types (Base m) i))
 
 pub known_types : (objects : ℕ) (ends : List (ℕ × ℕ)) (n l : ℕ) (stmt : Stmt) (under : ℕ) (ctx : Ctx) (φ : Term) → stmt ≡ Show under ctx φ → is_in_range objects ends n l stmt ≡ true →
     list_all (is_known n) ctx.types ≡ true

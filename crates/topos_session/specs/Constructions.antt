@@ -39,7 +39,7 @@ Property = Presheaf → List FunctorMap → Type 0
 
 module _ (k : Category) (so : Declarations) where
   abbrev X : ℕ → Presheaf
-  X n = functor_at so.functors n
+  X n = functor_at so.world.functors n
 
   abbrev pub from : ℕ → ℕ
   from m = (map_at so.maps m).dom

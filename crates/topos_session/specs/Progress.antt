@@ -1,14 +1,15 @@
 -- A run that is under way.
-use Rattle.std.specs.Prelude.{◌≡◌, ℕ, ◌*◌, ◌≤◌, Bool, true, [], map, length, take, drop, None}
+use Rattle.std.specs.Prelude.{◌≡◌, ℕ, ◌≤◌, Bool, true, false, List, [], map, length, take, drop, None}
+use Rattle.finite_lists.specs.Members.{In}
+use Rattle.topos_model.specs.declared.ty.Ty.{Ty}
 use Rattle.topos_model.specs.declared.doc.Doc.{Doc}
-use Rattle.topos_model.specs.categories.Category.{Category}
 use Rattle.topos_model.specs.categories.Listed.{all_ends}
-use Rattle.topos_model.specs.categories.Filling.{filled_category}
 use Rattle.topos_model.specs.categories.CategoryFaults.{category_fault}
 use Rattle.topos_model.specs.statements.Needs.{under, needs}
-use Rattle.topos_model.specs.statements.Declarations.{Declared}
+use Rattle.topos_model.specs.statements.Cells.{is_named, types_under}
+use Rattle.topos_model.specs.statements.Declarations.{Declared, site_of}
 use Rattle.topos_model.specs.statements.Form.{are_in_range, has_range, is_trivial}
-use Rattle.natural_maps.specs.Room.{max_room}
+use Rattle.sealed_world.specs.SealedWorlds.{CountedWorld, world_cells}
 use Rattle.topos_session.specs.declared.declarations.Declarations.{Declarations}
 use Rattle.topos_session.specs.Declarations.{with_counted, AreLawful}
 
@@ -20,18 +21,28 @@ pub record Progress : Type 0 where
   pub answered : ℕ
   pub live : Bool
 
--- what the first n statements declare and count, where all of them are run; the types that these speak of do not depend on maps
+-- the types that the first n statements count, where all of them are run; these do not depend on maps
+abbrev pub types_by : Doc → ℕ → List (ℕ × List Ty)
+types_by doc n = map (λ stmt. (under stmt, needs [] stmt)) (take n doc.stmts)
+
+-- what the first n statements declare and count
 abbrev pub declared_by : Doc → Declarations → ℕ → Declared
-declared_by doc so n = with_counted so (map (λ stmt. (under stmt, needs [] stmt)) (take n doc.stmts))
+declared_by doc so n = with_counted so (types_by doc n)
+
+-- beside presheaves, exactly the types that are counted are sealed
+pub record AreCounted (types : List Ty) (w : CountedWorld) : Type 0 where
+  pub sealed : (T : Ty) → In types T → is_named T ≡ false → In w.types T
+  pub only : (T : Ty) → In w.types T → In types T
 
 -- what holds at each statement
-pub record IsUnderWay (doc : Doc) (k : Category) (so : Declarations) (budget answered : ℕ) : Type 0 where
+pub record IsUnderWay (doc : Doc) (so : Declarations) (answered : ℕ) (live : Bool) : Type 0 where
   pub range : has_range doc ≡ true
   pub faultless : category_fault doc.cat ≡ None
   pub covers : is_trivial doc.tops ≡ true
-  pub category : k ≡ filled_category doc.cat
-  pub lawful : AreLawful k so
-  pub room : budget ≤ max_room
+  pub site : so.world.site ≡ site_of doc 0
+  pub lawful : AreLawful so.world.site.category so
   pub within : answered ≤ length doc.stmts
-  pub few : so.others ≤ answered * max_room
-  pub rest : are_in_range doc.cat.objects (all_ends doc.cat) (length so.functors) (length so.maps) (drop answered doc.stmts) ≡ true
+  pub few : length so.world.functors ≤ answered
+  pub fits : live ≡ true → world_cells so.world ≤ so.world.budget
+  pub counted : live ≡ true → AreCounted (types_under 0 (types_by doc answered)) so.world
+  pub rest : are_in_range doc.cat.objects (all_ends doc.cat) (length so.world.functors) (length so.maps) (drop answered doc.stmts) ≡ true

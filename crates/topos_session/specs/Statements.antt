@@ -1,5 +1,5 @@
 -- What the statements that are run answer over declared functors and maps, and why they are refused.
-use Rattle.std.specs.Prelude.{◌≡◌, ℕ, ◌+◌, ◌-◌, ◌≤◌, ◌<◌, true, false, not, List, map, reverse, length, Option, Some, None, ⊤}
+use Rattle.std.specs.Prelude.{◌≡◌, ℕ, ◌+◌, ◌-◌, ◌≤◌, ◌<◌, true, false, not, List, [], map, reverse, length, Option, Some, None, ⊤}
 use Rattle.finite_lists.specs.First.{some_if}
 use Rattle.topos_model.specs.declared.stmt.Stmt.{Stmt}
 use Rattle.topos_model.specs.declared.stmt.Stmt.TheVariants as statement
@@ -9,8 +9,11 @@ use Rattle.topos_model.specs.declared.fault.Fault.{Fault}
 use Rattle.topos_model.specs.declared.fault.Fault.TheVariants as refused
 use Rattle.presheaf_core.specs.declared.fault.FunctorFault.{FunctorFault}
 use Rattle.presheaf_core.specs.declared.fault.FunctorFault.TheVariants as presheaf_fault
+use Rattle.functor_store.specs.declared.fault.StoreFault.{StoreFault}
+use Rattle.functor_store.specs.declared.fault.StoreFault.TheVariants as store_fault
 use Rattle.natural_maps.specs.declared.fault.MapFault.{MapFault}
 use Rattle.natural_maps.specs.declared.fault.MapFault.TheVariants as map_fault
+use Rattle.sealed_world.specs.SealedWorlds.{world_cells, cells_with, IsGrownBy}
 use Rattle.topos_session.specs.declared.stop.Stop.{Stop}
 use Rattle.topos_session.specs.declared.stop.Stop.TheVariants as stop
 use Rattle.topos_session.specs.declared.declarations.FunctorMap.{FunctorMap}
@@ -22,12 +25,13 @@ use Rattle.topos_model.specs.categories.Filling.{filled_presheaf}
 use Rattle.topos_model.specs.presheaves.NaturalMaps.{maps}
 use Rattle.topos_model.specs.presheaves.PresheafFaults.{presheaf_fault as fault_of_presheaf}
 use Rattle.topos_model.specs.presheaves.MapFaults.{listed_map, map_fault as fault_of_map}
+use Rattle.topos_model.specs.statements.Needs.{needs}
 use Rattle.topos_model.specs.statements.Cells.{objects_of, hom_cells}
 use Rattle.topos_model.specs.statements.Answers.{tuple_of, shape_of, map_shape, functor_map}
 use Rattle.topos_model.specs.statements.Form.{declares}
 use Rattle.topos_model.specs.statements.Built.{is_built}
 use Rattle.topos_session.specs.Variables.{functor_at, presheaf_world}
-use Rattle.topos_session.specs.Declarations.{declared_map, AreLawful, with_functor, with_presheaf, with_map, with_cells, made}
+use Rattle.topos_session.specs.Declarations.{declared_map, AreLawful, with_functor, with_presheaf, with_map, with_cells}
 use Rattle.topos_session.specs.Constructions.{is_construction, between, property, fit}
 
 -- the stop by a fault of a listed presheaf
@@ -44,6 +48,11 @@ map_stop (map_fault.MapNotTotal c x) = stop.Refused (refused.MapNotTotal c x)
 map_stop (map_fault.NotNatural f x) = stop.Refused (refused.NotNatural f x)
 map_stop map_fault.NoMemory = stop.NoMemory
 
+-- the stop by a fault of the store
+abbrev pub store_stop : StoreFault → Stop
+store_stop store_fault.Over = stop.Budget
+store_stop store_fault.NoMemory = stop.NoMemory
+
 -- a functor with the property that the statement names is made, shown and declared with its maps
 pub record Builds (k : Category) (so : Declarations) (stmt : Stmt) (answer : Answer) (after : Declarations) : Type 0 where
   pub functor : Presheaf
@@ -56,43 +65,51 @@ pub record Builds (k : Category) (so : Declarations) (stmt : Stmt) (answer : Ans
 abbrev pub AnswersOver : Category → Declarations → Stmt → Answer → Declarations → Type 0
 AnswersOver k so (statement.Presheaf functor raw) answer after = (answer ≡ Quiet) × (after ≡ with_presheaf so (filled_presheaf k raw))
 AnswersOver k so (statement.Map m x y raw) answer after =
-    (answer ≡ Quiet) × (after ≡ with_map so (between x y (listed_map k (functor_at so.functors x) raw)))
+    (answer ≡ Quiet) × (after ≡ with_map so (between x y (listed_map k (functor_at so.world.functors x) raw)))
 AnswersOver k so (statement.Hom x y) answer after =
-    let listed = maps k (functor_at so.functors x) (functor_at so.functors y) in
-    (answer ≡ Maps (map (λ m. map_shape (functor_map x y m)) listed)) × (after ≡ with_cells so (hom_cells (length listed) (functor_at so.functors x)))
+    let listed = maps k (functor_at so.world.functors x) (functor_at so.world.functors y) in
+    (answer ≡ Maps (map (λ m. map_shape (functor_map x y m)) listed)) × (after ≡ with_cells so (hom_cells (length listed) (functor_at so.world.functors x)))
 AnswersOver k so (statement.Show under ctx φ) answer after =
-    (answer ≡ Shown ctx (map (λ c. map tuple_of (shown (presheaf_world k so.functors) (reverse ctx.types) φ c)) (objects_of k))) × (after ≡ so)
+    (answer ≡ Shown ctx (map (λ c. map tuple_of (shown (presheaf_world k so.world.functors) (reverse ctx.types) φ c)) (objects_of k))) × (after ≡ so)
 AnswersOver k so stmt answer after = Builds k so stmt answer after
 
 -- why a statement is refused
 abbrev pub refusal_over : Category → Declarations → Stmt → Option Fault
 refusal_over k so (statement.Presheaf functor raw) = fault_of_presheaf k raw
-refusal_over k so (statement.Map m x y raw) = fault_of_map k (functor_at so.functors x) (functor_at so.functors y) raw
+refusal_over k so (statement.Map m x y raw) = fault_of_map k (functor_at so.world.functors x) (functor_at so.world.functors y) raw
 refusal_over k so (statement.Hom x y) = None
 refusal_over k so (statement.Show under ctx φ) = some_if (not (is_built (statement.Show under ctx φ))) refused.NotBuilt
 refusal_over k so stmt = elim (is_construction stmt) [ true ↦ some_if (not (fit k so stmt)) refused.NotParallel | false ↦ Some refused.NotBuilt ]
 
--- a statement is answered within the budget, with this declared before it and behind it
-pub record IsAnsweredOver (k : Category) (budget : ℕ) (so : Declarations) (stmt : Stmt) (answer : Answer) (after : Declarations) : Type 0 where
-  pub accepted : refusal_over k so stmt ≡ None
-  pub answers : AnswersOver k so stmt answer after
-  pub within : made k so after ≤ budget
-  pub lawful : AreLawful k after
-  pub declared : declares stmt ≡ Some (length after.functors - length so.functors, length after.maps - length so.maps)
-  pub functors : length so.functors ≤ length after.functors
-  pub maps : length so.maps ≤ length after.maps
-  pub others : after.others ≤ so.others + budget
+-- the types that a statement counts are sealed, and nothing else has changed
+pub record AreSealedFor (stmt : Stmt) (so mid : Declarations) : Type 0 where
+  pub maps : mid.maps ≡ so.maps
+  pub types : IsGrownBy (needs [] stmt) so.world mid.world
 
--- a statement is accepted, and what it makes has more cells than the budget
-pub record IsOverBudget (k : Category) (budget : ℕ) (so : Declarations) (stmt : Stmt) : Type 0 where
+-- a statement is answered, with this declared before it and behind it
+pub record IsAnsweredOver (k : Category) (so : Declarations) (stmt : Stmt) (answer : Answer) (after : Declarations) : Type 0 where
   pub accepted : refusal_over k so stmt ≡ None
-  pub answer : Answer
-  pub after : Declarations
-  pub answers : AnswersOver k so stmt answer after
-  pub over : budget < made k so after
+  -- its types are within the budget
+  pub mid : Declarations
+  pub sealed : AreSealedFor stmt so mid
+  pub types_fit : cells_with so.world (needs [] stmt) ≤ so.world.budget
+  pub answers : AnswersOver k mid stmt answer after
+  pub within : world_cells after.world ≤ so.world.budget
+  pub lawful : AreLawful k after
+  pub declared : declares stmt ≡ Some (length after.world.functors - length so.world.functors, length after.maps - length so.maps)
+  pub functors : length so.world.functors ≤ length after.world.functors
+  pub maps : length so.maps ≤ length after.maps
+  pub kept : (after.world.site ≡ so.world.site) × (after.world.types ≡ mid.world.types) × (after.world.budget ≡ so.world.budget)
+
+-- a statement is accepted, and its types, or these and what it makes, have more cells than the budget
+pub data IsOverBudget (k : Category) (so : Declarations) (stmt : Stmt) : Type 0 where
+  by_types : refusal_over k so stmt ≡ None → so.world.budget < cells_with so.world (needs [] stmt) → IsOverBudget k so stmt
+  by_answer : (mid : Declarations) (answer : Answer) (after : Declarations) → refusal_over k so stmt ≡ None → AreSealedFor stmt so mid
+      → cells_with so.world (needs [] stmt) ≤ so.world.budget → AnswersOver k mid stmt answer after → after.world.site ≡ so.world.site → after.world.types ≡ mid.world.types
+      → so.world.budget < world_cells after.world → IsOverBudget k so stmt
 
 -- a statement is refused, or over the budget, or no memory was left
-abbrev pub IsStoppedOver : Category → ℕ → Declarations → Stmt → Stop → Type 0
-IsStoppedOver k budget so stmt (stop.Refused fault) = refusal_over k so stmt ≡ Some fault
-IsStoppedOver k budget so stmt stop.Budget = IsOverBudget k budget so stmt
-IsStoppedOver k budget so stmt stop.NoMemory = ⊤
+abbrev pub IsStoppedOver : Category → Declarations → Stmt → Stop → Type 0
+IsStoppedOver k so stmt (stop.Refused fault) = refusal_over k so stmt ≡ Some fault
+IsStoppedOver k so stmt stop.Budget = IsOverBudget k so stmt
+IsStoppedOver k so stmt stop.NoMemory = ⊤

@@ -4,8 +4,8 @@ ghost use Rattle.topos_model.specs.declared.stmt.Stmt.TheVariants as statement;
 ghost use Rattle.topos_model.specs.presheaves.PresheafFaults.{IsPresheafListing};
 ghost use Rattle.topos_model.specs.presheaves.MapFaults.{IsMapListing};
 ghost use Rattle.topos_model.specs.statements.Form.{is_in_range};
-ghost use Rattle.natural_maps.specs.Room.{max_room};
-ghost use Rattle.topos_session.specs.Declarations.{AreLawful};
+ghost use Rattle.sealed_world.specs.SealedWorlds.{world_cells};
+ghost use Rattle.topos_session.specs.Declarations.{AreLawful, IsKept};
 ghost use Rattle.topos_session.specs.Constructions.{is_construction};
 ghost use Rattle.topos_session.specs.Statements.{IsAnsweredOver, IsStoppedOver};
 
@@ -16,161 +16,161 @@ use crate::form::is_shown;
 use crate::homs::listed_maps;
 use crate::shapes::built;
 use crate::show::shown;
-use fin_category::Cat;
+use crate::types::shown_types;
+use functor_store::Over;
 use natural_maps::NatMap;
 use presheaf_core::Functor;
 use std::alloc::Global;
-use topos_model::{Answer, Copied, Fault, RawFunctor, RawMap, Stmt};
+use topos_model::{Answer, Copied, Ctx, Fault, RawFunctor, RawMap, Stmt, Term};
 
 // Declares a listed presheaf, the next one.
 fn declare_presheaf(
     alloc: Global,
-    cat: &Cat,
     so: &mut Declarations,
     functor: u32,
     raw: &RawFunctor,
-    budget: u64,
 ) -> Result<Answer, Stop>
-    requires lawful { AreLawful cat.now so.old }
-    requires listing { IsPresheafListing cat.now raw.now }
-    ensures answer { IfOk result (λ answer. IsAnsweredOver cat.now budget so.old (statement.Presheaf functor raw.now) answer so.new) }
-    ensures stop { IfErr result (IsStoppedOver cat.now budget so.old (statement.Presheaf functor raw.now)) }
+    requires lawful { AreLawful so.old.world.site.category so.old }
+    requires listing { IsPresheafListing so.old.world.site.category raw.now }
+    requires few { length so.old.world.functors < 2 ^ 32 }
+    requires fits { world_cells so.old.world ≤ so.old.world.budget }
+    ensures answer { IfOk result (λ answer. IsAnsweredOver so.old.world.site.category so.old (statement.Presheaf functor raw.now) answer so.new) }
+    ensures stop { IfErr result (IsStoppedOver so.old.world.site.category so.old (statement.Presheaf functor raw.now)) }
     ensures unchanged { OnErr result (so.new ≡ so.old) }
 {
     let _ = functor;
-    let listed = Functor::check(alloc, cat, raw)?;
-    if listed.cells(cat) > budget {
-        return Err(Stop::Budget);
-    }
-    so.functors.push(listed)?;
+    let listed = Functor::check(alloc, so.cat(), raw)?;
+    so.world.declare(alloc, listed)?;
+    let _room = so.world.room();
     Ok(Answer::Quiet)
 }
 
 // Declares a listed map between two presheaves, the next one.
 fn declare_map(
     alloc: Global,
-    cat: &Cat,
     so: &mut Declarations,
     number: u32,
     ends: (u32, u32),
     raw: &RawMap,
-    budget: u64,
 ) -> Result<Answer, Stop>
-    requires lawful { AreLawful cat.now so.old }
-    requires domain { ends.0 < length so.old.functors }
-    requires codomain { ends.1 < length so.old.functors }
-    requires listing { IsMapListing cat.now raw.now }
-    ensures answer { IfOk result (λ answer. IsAnsweredOver cat.now budget so.old (statement.Map number ends.0 ends.1 raw.now) answer so.new) }
-    ensures stop { IfErr result (IsStoppedOver cat.now budget so.old (statement.Map number ends.0 ends.1 raw.now)) }
+    requires lawful { AreLawful so.old.world.site.category so.old }
+    requires domain { ends.0 < length so.old.world.functors }
+    requires codomain { ends.1 < length so.old.world.functors }
+    requires listing { IsMapListing so.old.world.site.category raw.now }
+    requires fits { world_cells so.old.world ≤ so.old.world.budget }
+    ensures answer { IfOk result (λ answer. IsAnsweredOver so.old.world.site.category so.old (statement.Map number ends.0 ends.1 raw.now) answer so.new) }
+    ensures stop { IfErr result (IsStoppedOver so.old.world.site.category so.old (statement.Map number ends.0 ends.1 raw.now)) }
     ensures unchanged { OnErr result (so.new ≡ so.old) }
 {
     let _ = number;
-    let _ = budget;
     let (dom, cod) = ends;
-    let map = NatMap::check(alloc, cat, so.functor(dom), so.functor(cod), raw)?;
+    let map = NatMap::check(alloc, so.cat(), so.functor(dom), so.functor(cod), raw)?;
     so.maps.push(FunctorMap { dom, cod, map })?;
     Ok(Answer::Quiet)
 }
 
 // Makes a presheaf by its universal property and declares it with its maps.
-fn build(
-    alloc: Global,
-    cat: &Cat,
-    so: &mut Declarations,
-    stmt: &Stmt,
-    budget: u64,
-) -> Result<Answer, Stop>
-    requires lawful { AreLawful cat.now so.old }
+fn build(alloc: Global, so: &mut Declarations, stmt: &Stmt) -> Result<Answer, Stop>
+    requires lawful { AreLawful so.old.world.site.category so.old }
     requires construction { is_construction stmt.now ≡ true }
-    requires range { is_in_range cat.now.objects cat.now.ends (length so.old.functors) (length so.old.maps) stmt.now ≡ true }
-    requires budget { budget ≤ max_room }
-    ensures answer { IfOk result (λ answer. IsAnsweredOver cat.now budget so.old stmt.now answer so.new) }
-    ensures stop { IfErr result (IsStoppedOver cat.now budget so.old stmt.now) }
+    requires range { is_in_range so.old.world.site.category.objects so.old.world.site.category.ends (length so.old.world.functors) (length so.old.maps) stmt.now ≡ true }
+    requires few { length so.old.world.functors < 2 ^ 32 }
+    requires fits { world_cells so.old.world ≤ so.old.world.budget }
+    ensures answer { IfOk result (λ answer. IsAnsweredOver so.old.world.site.category so.old stmt.now answer so.new) }
+    ensures stop { IfErr result (IsStoppedOver so.old.world.site.category so.old stmt.now) }
     ensures unchanged { OnErr result (so.new ≡ so.old) }
 {
-    let made = match construct(alloc, cat, so, stmt, budget) {
+    let room = so.world.room();
+    let made = match construct(alloc, so.cat(), so, stmt, room) {
         Ok(made) => made,
         Err(stop) => return Err(stop),
     };
-    let answer = built(alloc, cat, so, &made)?;
-    so.declare(made.functor, made.maps)?;
+    let answer = built(alloc, so.cat(), so, &made)?;
+    so.declare(alloc, made.functor, made.maps)?;
+    let _room = so.world.room();
     Ok(answer)
 }
 
 // Lists all maps between two presheaves.
-fn list(
-    alloc: Global,
-    cat: &Cat,
-    so: &mut Declarations,
-    ends: (u32, u32),
-    budget: u64,
-) -> Result<Answer, Stop>
-    requires lawful { AreLawful cat.now so.old }
-    requires domain { ends.0 < length so.old.functors }
-    requires codomain { ends.1 < length so.old.functors }
-    requires budget { budget ≤ max_room }
-    requires few { so.old.others < 2 ^ 63 }
-    ensures answer { IfOk result (λ answer. IsAnsweredOver cat.now budget so.old (statement.Hom ends.0 ends.1) answer so.new) }
-    ensures stop { IfErr result (IsStoppedOver cat.now budget so.old (statement.Hom ends.0 ends.1)) }
+fn list(alloc: Global, so: &mut Declarations, ends: (u32, u32)) -> Result<Answer, Stop>
+    requires lawful { AreLawful so.old.world.site.category so.old }
+    requires domain { ends.0 < length so.old.world.functors }
+    requires codomain { ends.1 < length so.old.world.functors }
+    requires fits { world_cells so.old.world ≤ so.old.world.budget }
+    ensures answer { IfOk result (λ answer. IsAnsweredOver so.old.world.site.category so.old (statement.Hom ends.0 ends.1) answer so.new) }
+    ensures stop { IfErr result (IsStoppedOver so.old.world.site.category so.old (statement.Hom ends.0 ends.1)) }
     ensures unchanged { OnErr result (so.new ≡ so.old) }
 {
     let (x, y) = ends;
-    let listed = listed_maps(alloc, cat, ends, so.functor(x), so.functor(y), budget)?;
-    so.others += listed.cells;
+    let room = so.world.room();
+    let listed = listed_maps(alloc, so.cat(), ends, so.functor(x), so.functor(y), room)?;
+    if let Err(Over) = so.world.charge(listed.cells) {
+        return Err(Stop::Budget);
+    }
+    let _room = so.world.room();
     Ok(Answer::Maps(listed.shapes))
 }
 
-/// Answers a statement, and puts last what it declares. Where it does not answer, what is declared is as before. The cells of what the statement makes are within
-/// the budget, or stop it.
-#[tactic(auto, using(crate::proofs::StatementForms::kind_rules))]
-pub(crate) fn answer(
+// Shows a formula over a context.
+fn show(
     alloc: Global,
-    cat: &Cat,
     so: &mut Declarations,
-    stmt: &Stmt,
-    budget: u64,
+    under: u32,
+    ctx: &Ctx,
+    phi: &Term,
 ) -> Result<Answer, Stop>
-    requires lawful { AreLawful cat.now so.old }
-    requires range { is_in_range cat.now.objects cat.now.ends (length so.old.functors) (length so.old.maps) stmt.now ≡ true }
-    requires budget { budget ≤ max_room }
-    requires few { so.old.others < 2 ^ 63 }
-    ensures answer { IfOk result (λ answer. IsAnsweredOver cat.now budget so.old stmt.now answer so.new) }
-    ensures stop { IfErr result (IsStoppedOver cat.now budget so.old stmt.now) }
-    ensures unchanged { OnErr result (so.new ≡ so.old) }
+    requires lawful { AreLawful so.old.world.site.category so.old }
+    requires range { is_in_range so.old.world.site.category.objects so.old.world.site.category.ends (length so.old.world.functors) (length so.old.maps) (statement.Show under ctx.now phi.now) ≡ true }
+    requires fits { world_cells so.old.world ≤ so.old.world.budget }
+    ensures answer { IfOk result (λ answer. IsAnsweredOver so.old.world.site.category so.old (statement.Show under ctx.now phi.now) answer so.new) }
+    ensures stop { IfErr result (IsStoppedOver so.old.world.site.category so.old (statement.Show under ctx.now phi.now)) }
+    ensures unchanged { OnErr result (IsKept so.old so.new) }
+{
+    if !is_shown(under, ctx, phi) {
+        return Err(Stop::Refused(Fault::NotBuilt));
+    }
+    let types = shown_types(alloc, ctx.types.as_slice())?;
+    so.world.need(alloc, types.as_slice())?;
+    let _room = so.world.room();
+    let ctx_copy = ctx.copy(alloc)?;
+    let stages = shown(
+        alloc,
+        so.cat(),
+        so.world.functors(),
+        ctx.types.as_slice(),
+        phi,
+    )?;
+    Ok(Answer::Shown {
+        ctx: ctx_copy,
+        stages,
+    })
+}
+
+/// Answers a statement, and puts last what it declares. Where it does not answer, what is declared is as before, and of the types that it counts some may be sealed. The
+/// cells of what is declared and counted so far are within the budget, or stop it.
+#[tactic(auto, using(crate::proofs::StatementForms::kind_rules))]
+pub(crate) fn answer(alloc: Global, so: &mut Declarations, stmt: &Stmt) -> Result<Answer, Stop>
+    requires lawful { AreLawful so.old.world.site.category so.old }
+    requires range { is_in_range so.old.world.site.category.objects so.old.world.site.category.ends (length so.old.world.functors) (length so.old.maps) stmt.now ≡ true }
+    requires few { length so.old.world.functors < 2 ^ 32 }
+    requires fits { world_cells so.old.world ≤ so.old.world.budget }
+    ensures answer { IfOk result (λ answer. IsAnsweredOver so.old.world.site.category so.old stmt.now answer so.new) }
+    ensures stop { IfErr result (IsStoppedOver so.old.world.site.category so.old stmt.now) }
+    ensures unchanged { OnErr result (IsKept so.old so.new) }
 {
     match stmt {
-        Stmt::Presheaf { functor, raw } => {
-            declare_presheaf(alloc, cat, so, *functor, raw, budget)
-        }
-        Stmt::Map { map, dom, cod, raw } => {
-            declare_map(alloc, cat, so, *map, (*dom, *cod), raw, budget)
-        }
-        Stmt::Product { .. } => build(alloc, cat, so, stmt, budget),
-        Stmt::Coproduct { .. } => build(alloc, cat, so, stmt, budget),
-        Stmt::Equalizer { .. } => build(alloc, cat, so, stmt, budget),
-        Stmt::Coequalizer { .. } => build(alloc, cat, so, stmt, budget),
-        Stmt::Pullback { .. } => build(alloc, cat, so, stmt, budget),
-        Stmt::Pushout { .. } => build(alloc, cat, so, stmt, budget),
-        Stmt::Image { .. } => build(alloc, cat, so, stmt, budget),
-        Stmt::Empty { .. } => build(alloc, cat, so, stmt, budget),
-        Stmt::Hom { x, y } => list(alloc, cat, so, (*x, *y), budget),
-        Stmt::Show { under, ctx, phi } => {
-            if !is_shown(*under, ctx, phi) {
-                return Err(Stop::Refused(Fault::NotBuilt));
-            }
-            let ctx_copy = ctx.copy(alloc)?;
-            let stages = shown(
-                alloc,
-                cat,
-                so.functors.as_slice(),
-                ctx.types.as_slice(),
-                phi,
-            )?;
-            Ok(Answer::Shown {
-                ctx: ctx_copy,
-                stages,
-            })
-        }
+        Stmt::Presheaf { functor, raw } => declare_presheaf(alloc, so, *functor, raw),
+        Stmt::Map { map, dom, cod, raw } => declare_map(alloc, so, *map, (*dom, *cod), raw),
+        Stmt::Product { .. } => build(alloc, so, stmt),
+        Stmt::Coproduct { .. } => build(alloc, so, stmt),
+        Stmt::Equalizer { .. } => build(alloc, so, stmt),
+        Stmt::Coequalizer { .. } => build(alloc, so, stmt),
+        Stmt::Pullback { .. } => build(alloc, so, stmt),
+        Stmt::Pushout { .. } => build(alloc, so, stmt),
+        Stmt::Image { .. } => build(alloc, so, stmt),
+        Stmt::Empty { .. } => build(alloc, so, stmt),
+        Stmt::Hom { x, y } => list(alloc, so, (*x, *y)),
+        Stmt::Show { under, ctx, phi } => show(alloc, so, *under, ctx, phi),
         _ => Err(Stop::Refused(Fault::NotBuilt)),
     }
 }

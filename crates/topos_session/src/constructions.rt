@@ -87,8 +87,8 @@ fn product_of(
     room: u64,
 ) -> Result<Construction, Stop>
     requires lawful { AreLawful cat.now so.now }
-    requires first { x < length so.now.functors }
-    requires second { y < length so.now.functors }
+    requires first { x < length so.now.world.functors }
+    requires second { y < length so.now.world.functors }
     requires room { room ≤ max_room }
     ensures made { IfOk result (IsMade cat.now room true (AsProduct cat.now so.now x y functor)) }
     ensures stop { IfErr result (IsUnmade cat.now room true (AsProduct cat.now so.now x y functor)) }
@@ -114,8 +114,8 @@ fn coproduct_of(
     room: u64,
 ) -> Result<Construction, Stop>
     requires lawful { AreLawful cat.now so.now }
-    requires first { x < length so.now.functors }
-    requires second { y < length so.now.functors }
+    requires first { x < length so.now.world.functors }
+    requires second { y < length so.now.world.functors }
     requires room { room ≤ max_room }
     ensures made { IfOk result (IsMade cat.now room true (AsCoproduct cat.now so.now x y functor)) }
     ensures stop { IfErr result (IsUnmade cat.now room true (AsCoproduct cat.now so.now x y functor)) }
@@ -313,7 +313,7 @@ pub(crate) fn construct(
 ) -> Result<Construction, Stop>
     requires lawful { AreLawful cat.now so.now }
     requires construction { is_construction stmt.now ≡ true }
-    requires range { is_in_range cat.now.objects cat.now.ends (length so.now.functors) (length so.now.maps) stmt.now ≡ true }
+    requires range { is_in_range cat.now.objects cat.now.ends (length so.now.world.functors) (length so.now.maps) stmt.now ≡ true }
     requires budget { budget ≤ max_room }
     ensures made { IfOk result (IsMade cat.now budget (fit cat.now so.now stmt.now) (property cat.now so.now stmt.now)) }
     ensures stop { IfErr result (IsUnmade cat.now budget (fit cat.now so.now stmt.now) (property cat.now so.now stmt.now)) }

@@ -1,11 +1,18 @@
 // What the statements so far have declared.
-ghost use Rattle.std.specs.Prelude.{◌≡◌, ◌<◌, length, OnOk, OnErr};
+ghost use Rattle.std.specs.Prelude.{◌≡◌, ◌+◌, ◌^◌, ◌<◌, length, OnOk, OnErr};
+ghost use Rattle.topos_model.specs.Laws.{IsFunctor};
+ghost use Rattle.sealed_functors.specs.Rows.{IsOverExactly};
+ghost use Rattle.sealed_world.specs.SealedWorlds.{world_cells, with_presheaf};
 ghost use Rattle.topos_session.specs.Variables.{functor_at};
 ghost use Rattle.topos_session.specs.Declarations.{map_at, with_functor};
 
+use fin_category::Cat;
+use functor_store::StoreFault;
 use natural_maps::NatMap;
 use presheaf_core::Functor;
-use topos_model::{NoMemory, Row};
+use sealed_world::SealedWorld;
+use std::alloc::Global;
+use topos_model::Row;
 
 /// A natural map between declared presheaves, which go by their numbers.
 #[derive(Drop)]
@@ -15,21 +22,28 @@ pub struct FunctorMap {
     pub map: NatMap,
 }
 
-/// The presheaves and maps that are declared so far, and the cells of the maps that were listed.
+/// The presheaves that are declared so far over the site and the types that are counted, with the cells of both and of the maps that were listed; and the maps that
+/// are declared.
 #[derive(Drop)]
 pub struct Declarations {
-    pub functors: Row<Functor>,
+    pub world: SealedWorld,
     pub maps: Row<FunctorMap>,
-    pub others: u64,
 }
 
 impl Declarations {
+    /// The category.
+    pub fn cat(&self) -> &Cat
+        ensures { result.now ≡ self.now.world.site.category }
+    {
+        self.world.site().cat()
+    }
+
     /// The presheaf of a number.
     pub fn functor(&self, n: u32) -> &Functor
-        requires { n < length self.now.functors }
-        ensures { result.now ≡ functor_at self.now.functors n }
+        requires { n < length self.now.world.functors }
+        ensures { result.now ≡ functor_at self.now.world.functors n }
     {
-        self.functors.get(n as usize)
+        self.world.functor(n)
     }
 
     /// The map of a number.
@@ -40,19 +54,25 @@ impl Declarations {
         self.maps.get(n as usize)
     }
 
-    /// Declares a presheaf, and maps between it and those before it. Where memory is short nothing is declared.
-    pub fn declare(&mut self, functor: Functor, maps: Row<FunctorMap>) -> Result<(), NoMemory>
+    /// Declares a presheaf, and maps between it and those before it. `Over` says that the cells of the presheaf and those so far exceed the budget. After a fault nothing is declared.
+    pub fn declare(
+        &mut self,
+        alloc: Global,
+        functor: Functor,
+        maps: Row<FunctorMap>,
+    ) -> Result<(), StoreFault>
+        requires functor { IsFunctor self.old.world.site.category functor }
+        requires few { length self.old.world.functors < 2 ^ 32 }
         ensures ok { OnOk result (self.new ≡ with_functor self.old functor maps) }
         ensures err { OnErr result (self.new ≡ self.old) }
+        ensures over { IsOverExactly result (self.old.world.budget < world_cells (with_presheaf self.old.world functor)) }
     {
         let declared = self.maps.len();
         self.maps.append(maps)?;
-        match self.functors.push(functor) {
-            Ok(_) => Ok(()),
-            Err(NoMemory) => {
-                self.maps.truncate(declared);
-                Err(NoMemory)
-            }
+        if let Err(fault) = self.world.declare(alloc, functor) {
+            self.maps.truncate(declared);
+            return Err(fault);
         }
+        Ok(())
     }
 }

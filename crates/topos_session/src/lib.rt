@@ -14,6 +14,7 @@ mod session;
 mod shapes;
 mod show;
 mod stop;
+mod types;
 mod variable;
 
 pub use run::{Run, run_document};

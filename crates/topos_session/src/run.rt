@@ -16,7 +16,7 @@ pub struct Run {
 }
 
 /// Runs a document: its site is checked, and its statements are answered one by one. A refusal is an end of the run, and it bears the number of the
-/// refused statement, or none where the site is refused. A statement that makes more cells than the budget is an end of the run too. Want of memory is the only error.
+/// refused statement, or none where the site is refused. A statement with which there are more cells than the budget is an end of the run too, and a whole run ends with all cells. Want of memory is the only error.
 pub fn run_document(alloc: Global, doc: Doc, budget: u64) -> Result<Run, NoMemory>
     requires budget { budget ≤ max_room }
     ensures runs { IfOk result (λ run. StagedRunOf run.doc budget run.answers run.end) }
@@ -53,9 +53,10 @@ pub fn run_document(alloc: Global, doc: Doc, budget: u64) -> Result<Run, NoMemor
             Err(Stop::NoMemory) => return Err(NoMemory),
         }
     }
+    let cells = session.cells();
     Ok(Run {
         doc: session.into_doc(),
         answers,
-        end: End::Whole { cells: 0 },
+        end: End::Whole { cells },
     })
 }

@@ -1,6 +1,8 @@
 // A document that is run statement by statement.
 ghost use Rattle.std.specs.Prelude.{◌≡◌, ◌≤◌, ◌<◌, ◌+◌, true, false, leb, length, IfOk, IfErr, OnErr};
 ghost use Rattle.natural_maps.specs.Room.{max_room};
+ghost use Rattle.topos_model.specs.statements.Run.{counted};
+ghost use Rattle.topos_model.specs.statements.Built.{today};
 ghost use Rattle.topos_session.specs.Steps.{category_stop};
 
 use crate::answer::answer;
@@ -9,8 +11,10 @@ use crate::form::is_trivial;
 use crate::range::has_range;
 use crate::{SiteStop, Stop};
 use fin_category::{Cat, CatFault};
+use sealed_world::SealedWorld;
 use std::alloc::Global;
 use std::marker::Model;
+use topologies::{Site, Topology};
 use topos_model::{Answer, Doc, Fault, Row};
 
 // The fault of the category refuses the document.
@@ -37,9 +41,7 @@ fn category_stop(doc: Doc, fault: CatFault) -> SiteStop
 pub struct Session {
     alloc: Global,
     doc: Doc,
-    cat: Cat,
     so: Declarations,
-    budget: u64,
     answered: usize,
     live: bool,
 }
@@ -56,15 +58,15 @@ impl Model for Session {
 
     ghost coded = { Prim.hlevel (codes, ty.the_row.coded, term.the_row.coded, value.the_row.coded) };
 
-    ghost view = { λ s. record { doc = s.doc; budget = s.budget; declared = declared_by s.doc s.so s.answered; answered = s.answered; live = s.live } };
+    ghost view = { λ s. record { doc = s.doc; budget = s.so.world.budget; declared = declared_by s.doc s.so s.answered; answered = s.answered; live = s.live } };
 
-    ghost invariant = { λ s. IsUnderWay s.doc s.cat s.so s.budget s.answered };
+    ghost invariant = { λ s. IsUnderWay s.doc s.so s.answered s.live };
 }
 
 impl Session {
     ghost use Rattle.topos_session.specs.Steps.{IsOpened, IsSiteStop, IsStep, IsStop};
 
-    /// Begins a document with a budget in cells, of which each statement has the whole: nothing is answered yet. A document whose numbers are out of range is refused as not built; then the category's first fault refuses it,
+    /// Begins a document with a budget in cells for all its statements together: nothing is answered yet. A document whose numbers are out of range is refused as not built; then the category's first fault refuses it,
     /// and then it is refused as not built where other sieves cover than the maximal ones. A refused document is handed back; where no memory is left it is given up.
     pub fn new(alloc: Global, doc: Doc, budget: u64) -> Result<Session, SiteStop>
         requires budget { budget ≤ max_room }
@@ -81,16 +83,16 @@ impl Session {
         if !is_trivial(doc.tops.as_slice()) {
             return Err(SiteStop::Refused(doc, Fault::NotBuilt));
         }
+        let top = Topology::trivial(alloc, &cat)?;
+        let world = SealedWorld::new(alloc, Site::new(cat, top), budget)?;
+        let _room = world.room();
         Ok(Session {
             alloc,
             doc,
-            cat,
             so: Declarations {
-                functors: Row::new(alloc),
+                world,
                 maps: Row::new(alloc),
-                others: 0,
             },
-            budget,
             answered: 0,
             live: true,
         })
@@ -101,6 +103,14 @@ impl Session {
         ensures { result ≡ self.now.live }
     {
         self.live
+    }
+
+    /// The cells of what the statements so far declare and count.
+    pub fn cells(&self) -> u64
+        requires live { self.now.live ≡ true }
+        ensures { result ≡ counted today self.now.doc self.now.declared }
+    {
+        self.so.world.cells()
     }
 
     /// Whether no statement is left.
@@ -131,7 +141,7 @@ impl Session {
         self.doc
     }
 
-    /// Answers the next statement. Where it is refused, or what it makes has more cells than the budget, or no memory is left for it, the session is as before and no longer live.
+    /// Answers the next statement. Where it is refused, or the cells so far are more than the budget, or no memory is left for it, the session is as before and no longer live.
     pub fn step(&mut self) -> Result<Answer, Stop>
         requires live { self.old.live ≡ true }
         requires left { self.old.answered < length self.old.doc.stmts }
@@ -140,7 +150,7 @@ impl Session {
         ensures ended { OnErr result (self.new ≡ record self.old { live = false }) }
     {
         let stmt = self.doc.stmts.get(self.answered);
-        match answer(self.alloc, &self.cat, &mut self.so, stmt, self.budget) {
+        match answer(self.alloc, &mut self.so, stmt) {
             Ok(answer) => {
                 self.answered += 1;
                 Ok(answer)

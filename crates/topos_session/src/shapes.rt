@@ -73,10 +73,10 @@ pub(crate) fn map_shape(
 
 // The presheaf of a number, where the construction is the next one.
 fn domain<'a>(so: &'a Declarations, made: &'a Construction, n: u32) -> &'a Functor
-    requires { n ≤ length so.now.functors }
-    ensures { result.now ≡ functor_at (so.now.functors ++ made.now.functor ∷ []) n }
+    requires { n ≤ length so.now.world.functors }
+    ensures { result.now ≡ functor_at (so.now.world.functors ++ made.now.functor ∷ []) n }
 {
-    if (n as usize) < so.functors.len() {
+    if (n as usize) < so.world.functors().len() {
         so.functor(n)
     } else {
         &made.functor
@@ -90,8 +90,8 @@ fn map_shapes(
     so: &Declarations,
     made: &Construction,
 ) -> Result<Row<MapShape>, NoMemory>
-    requires functors { AreFunctors cat.now (so.now.functors ++ made.now.functor ∷ []) }
-    requires natural { (i : ℕ) → i < length made.now.maps → IsFunctorMap cat.now (so.now.functors ++ made.now.functor ∷ []) (map_at made.now.maps i) }
+    requires functors { AreFunctors cat.now (so.now.world.functors ++ made.now.functor ∷ []) }
+    requires natural { (i : ℕ) → i < length made.now.maps → IsFunctorMap cat.now (so.now.world.functors ++ made.now.functor ∷ []) (map_at made.now.maps i) }
     ensures { IfOk result (λ shapes. shapes ≡ map (λ m. map_shape (declared_map m)) made.now.maps) }
 {
     let _ = cat;
@@ -111,8 +111,8 @@ pub(crate) fn built(
     made: &Construction,
 ) -> Result<Answer, NoMemory>
     requires functor { IsFunctor cat.now made.now.functor }
-    requires functors { AreFunctors cat.now (so.now.functors ++ made.now.functor ∷ []) }
-    requires natural { (i : ℕ) → i < length made.now.maps → IsFunctorMap cat.now (so.now.functors ++ made.now.functor ∷ []) (map_at made.now.maps i) }
+    requires functors { AreFunctors cat.now (so.now.world.functors ++ made.now.functor ∷ []) }
+    requires natural { (i : ℕ) → i < length made.now.maps → IsFunctorMap cat.now (so.now.world.functors ++ made.now.functor ∷ []) (map_at made.now.maps i) }
     ensures { IfOk result (λ answer. answer ≡ Built (shape_of cat.now made.now.functor) (map (λ m. map_shape (declared_map m)) made.now.maps)) }
 {
     let functor = shape(alloc, cat, &made.functor)?;

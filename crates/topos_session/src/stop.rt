@@ -1,4 +1,5 @@
 // Why a site or a statement gives no answer.
+use functor_store::StoreFault;
 use natural_maps::MapFault;
 use presheaf_core::FunctorFault;
 use topos_model::{Doc, Fault, NoMemory};
@@ -16,7 +17,7 @@ pub enum SiteStop {
 #[derive(Drop)]
 pub enum Stop {
     Refused(Fault),
-    /// What the statement makes has more cells than the budget.
+    /// The cells of the statements up to this one are more than the budget.
     Budget,
     NoMemory,
 }
@@ -40,6 +41,20 @@ impl From<NoMemory> for Stop {
 
     fn from(_error: NoMemory) -> Stop {
         Stop::NoMemory
+    }
+}
+
+impl From<StoreFault> for Stop {
+    ghost use Rattle.std.specs.Prelude.{◌≡◌};
+    ghost use Rattle.topos_session.specs.Statements.{store_stop};
+
+    ghost from_gives = { λ fault stop. stop ≡ store_stop fault };
+
+    fn from(fault: StoreFault) -> Stop {
+        match fault {
+            StoreFault::Over => Stop::Budget,
+            StoreFault::NoMemory => Stop::NoMemory,
+        }
     }
 }
 

@@ -24,6 +24,6 @@ is_built (Hom x y) = true
 is_built (Show under ctx φ) = eqb under 0 && list_all is_named ctx.types && is_propositional (map named (reverse ctx.types)) φ
 is_built _ = false
 
--- no covers but the maximal ones, and cells are not counted together: each statement has the whole budget
+-- no covers but the maximal ones
 abbrev pub today : Extent
-today = record { statements = is_built; topologies = is_trivial; counts = false }
+today = record { statements = is_built; topologies = is_trivial; counts = true }

@@ -144,8 +144,12 @@ const UNBUILT: [(&str, &str); 15] = [
 /// The pieces of the graph's text, and for each of their bytes what the text up to it is. A capital letter says that a token begins there.
 /// D: a document, with the report beside the piece. N: no document, and a next token is wanted. X: the last token cannot stand there. B: at the byte no token begins.
 const PREFIXES: [(&str, &str, &str); 10] = [
-    ("object V, E; ", "XxxxxnnNNnNDd", ""),
-    ("arrow s, t : V -> E; ", "XxxxnnNNnNnNnNnBnnNDd", ""),
+    ("object V, E; ", "XxxxxnnNNnNDd", "cells 0\n"),
+    (
+        "arrow s, t : V -> E; ",
+        "XxxxnnNNnNnNnNnBnnNDd",
+        "cells 0\n",
+    ),
     ("presheaf G { ", "XxxxxxxnnNnNn", ""),
     ("at V : p, q; ", "XnnNnNnNNnNNn", ""),
     ("at E : e, f, l; ", "XnnNnNnNNnNNnNNn", ""),
@@ -159,16 +163,16 @@ const PREFIXES: [(&str, &str, &str); 10] = [
         "XxxxnnNnNnNnBnnNNnNnBnnNNnNnBnnNNn",
         "",
     ),
-    ("}; ", "NDd", ""),
+    ("}; ", "NDd", "cells 16\n"),
     (
         "show { x : G, y : G | x = y }; ",
         "XxxnnNnNnNnNNnNnNnNnNnNnNnNnNDd",
-        "4 show\nV: (p, p) (q, q)\nE: (e, e) (f, f) (l, l)\n",
+        "4 show\nV: (p, p) (q, q)\nE: (e, e) (f, f) (l, l)\ncells 84\n",
     ),
     (
         "show { x : G, y : G | x = y => false };",
         "XxxnnNnNnNnNNnNnNnNnNnNnNnNnXnnNnnnnnND",
-        "4 show\nV: (p, p) (q, q)\nE: (e, e) (f, f) (l, l)\n5 show\nV: (p, q) (q, p)\nE: (e, l) (f, l) (l, e) (l, f)\n",
+        "4 show\nV: (p, p) (q, q)\nE: (e, e) (f, f) (l, l)\n5 show\nV: (p, q) (q, p)\nE: (e, l) (f, l) (l, e) (l, f)\ncells 84\n",
     ),
 ];
 
@@ -195,7 +199,7 @@ const LONG: [(&str, &str, usize, &str, &str); 10] = [
         "",
         "refused 14 too many: term 256\n",
     ),
-    ("object ", "a", 255, ";", ""),
+    ("object ", "a", 255, ";", "cells 0\n"),
     ("object ", "a", 256, ";", "refused 14 too many: name 255\n"),
     (
         "object U;",
@@ -212,7 +216,7 @@ const LONG: [(&str, &str, usize, &str, &str); 10] = [
         "refused 14 too many: statements 10000\n",
     ),
     ("", "(", 1_048_576, "", "refused 13 syntax: token 1\n"),
-    ("object U;", " ", 1_048_567, "", ""),
+    ("object U;", " ", 1_048_567, "", "cells 0\n"),
     (
         "object U;",
         " ",
@@ -241,7 +245,7 @@ fn refused_texts(rt: HostRuntime) -> Result<(), Fail> {
     for (text, report) in REFUSED {
         is_reported(&rt, text, report)?;
     }
-    is_reported(&rt, "object U; // no line feed", "")
+    is_reported(&rt, "object U; // no line feed", "cells 0\n")
 }
 
 #[test]
@@ -320,7 +324,7 @@ fn long_texts(rt: HostRuntime) -> Result<(), Fail> {
 #[test]
 fn many_objects_and_arrows(rt: HostRuntime) -> Result<(), Fail> {
     for (objects, arrows, report) in [
-        (128, 384, ""),
+        (128, 384, "cells 0\n"),
         (128, 385, "refused 14 too many: arrows 512\n"),
         (129, 384, "refused 14 too many: objects 128\n"),
     ] {

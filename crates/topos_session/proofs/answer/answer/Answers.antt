@@ -1,4 +1,6 @@
-use Rattle.std.proofs.Common.{sym, subst, ◌∙◌, length}
+use Rattle.std.proofs.lemmas.Result.{on_err_weaker}
+use Rattle.topos_session.proofs.LawfulDeclarations.{unchanged_kept}
+use Rattle.std.proofs.Common.{refl, sym, subst, ◌∙◌, length}
 use Rattle.topos_model.specs.declared.stmt.Stmt.{Stmt}
 use Rattle.topos_model.specs.declared.answer.Answer.TheVariants.{Shown}
 use Rattle.topos_session.specs.declared.stop.Stop.TheVariants.{Refused}
@@ -11,62 +13,71 @@ use Rattle.topos_session.proofs.answer.answer.Goals as goal
 pub declare_presheaf-requires-clause-listing : goal.declare_presheaf-requires-clause-listing
 declare_presheaf-requires-clause-listing c =
     let so = c.args.so.now in
-    listing_of c.args.cat.now (length so.functors) (length so.maps) c.args.stmt.now c.in-Presheaf.functor c.in-Presheaf.raw c.in-Presheaf.is c.requires.range
+    listing_of c.args.so.now.world.site.category (length so.world.functors) (length so.maps) c.args.stmt.now c.in-Presheaf.functor c.in-Presheaf.raw c.in-Presheaf.is c.requires.range
 
 pub declare_map-requires-clause-domain : goal.declare_map-requires-clause-domain
 declare_map-requires-clause-domain c =
     let so = c.args.so.now in
     let m = c.in-Map in
-    (map_range c.args.cat.now (length so.functors) (length so.maps) c.args.stmt.now m.map m.dom m.cod m.raw m.is c.requires.range).domain
+    (map_range c.args.so.now.world.site.category (length so.world.functors) (length so.maps) c.args.stmt.now m.map m.dom m.cod m.raw m.is c.requires.range).domain
 
 pub declare_map-requires-clause-codomain : goal.declare_map-requires-clause-codomain
 declare_map-requires-clause-codomain c =
     let so = c.args.so.now in
     let m = c.in-Map in
-    (map_range c.args.cat.now (length so.functors) (length so.maps) c.args.stmt.now m.map m.dom m.cod m.raw m.is c.requires.range).codomain
+    (map_range c.args.so.now.world.site.category (length so.world.functors) (length so.maps) c.args.stmt.now m.map m.dom m.cod m.raw m.is c.requires.range).codomain
 
 pub declare_map-requires-clause-listing : goal.declare_map-requires-clause-listing
 declare_map-requires-clause-listing c =
     let so = c.args.so.now in
     let m = c.in-Map in
-    (map_range c.args.cat.now (length so.functors) (length so.maps) c.args.stmt.now m.map m.dom m.cod m.raw m.is c.requires.range).listing
+    (map_range c.args.so.now.world.site.category (length so.world.functors) (length so.maps) c.args.stmt.now m.map m.dom m.cod m.raw m.is c.requires.range).listing
 
 pub list-requires-clause-domain : goal.list-requires-clause-domain
 list-requires-clause-domain c =
     let so = c.args.so.now in
-    (hom_range c.args.cat.now (length so.functors) (length so.maps) c.args.stmt.now c.in-Hom.x c.in-Hom.y c.in-Hom.is c.requires.range).0
+    (hom_range c.args.so.now.world.site.category (length so.world.functors) (length so.maps) c.args.stmt.now c.in-Hom.x c.in-Hom.y c.in-Hom.is c.requires.range).0
 
 pub list-requires-clause-codomain : goal.list-requires-clause-codomain
 list-requires-clause-codomain c =
     let so = c.args.so.now in
-    (hom_range c.args.cat.now (length so.functors) (length so.maps) c.args.stmt.now c.in-Hom.x c.in-Hom.y c.in-Hom.is c.requires.range).1
-
-pub returns-then-not-is_shown-clause-stop : goal.returns-then-not-is_shown-clause-stop
-returns-then-not-is_shown-clause-stop c =
-    let s = c.in-Show in
-    subst (λ (stmt : Stmt). IsStoppedOver c.args.cat.now c.args.budget c.args.so.now stmt (Refused NotBuilt)) (sym s.is)
-    (formula_refused c.args.cat.now c.args.budget c.args.so.now s.under s.ctx s.phi (sym c.is_shown.ensures ∙ c.if-not-is_shown.true))
-
-pub shown-requires-clause-names : goal.shown-requires-clause-names
-shown-requires-clause-names c =
-    let so = c.args.so.now in
-    let s = c.in-Show in
-    let known = known_types c.args.cat.now.objects c.args.cat.now.ends (length so.functors) (length so.maps) c.args.stmt.now s.under s.ctx s.phi s.is c.requires.range in
-    rw (c.as_slice.ensures, c.as_slice-in-Show.ensures)
-    (all_declared (length so.functors) s.ctx.types known (shown_parts s.under s.ctx s.phi (sym c.is_shown.ensures ∙ c.if-not-is_shown.false)).0)
-
-pub shown-requires-clause-form : goal.shown-requires-clause-form
-shown-requires-clause-form c =
-    let s = c.in-Show in
-    rw (c.as_slice-in-Show.ensures) (shown_parts s.under s.ctx s.phi (sym c.is_shown.ensures ∙ c.if-not-is_shown.false)).1
-
-pub returns-in_ok-stages-in-Show-clause-answer : goal.returns-in_ok-stages-in-Show-clause-answer
-returns-in_ok-stages-in-Show-clause-answer c =
-    let s = c.in-Show in
-    let stages = c.in_ok-stages-in-Show in
-    subst (λ (stmt : Stmt). IsAnsweredOver c.args.cat.now c.args.budget c.args.so.now stmt (Shown c.in_ok-ctx_copy-in-Show.ctx_copy stages.stages) c.args.so.now) (sym s.is)
-    (formula_shown c.args.cat.now c.args.budget c.args.so.now s.under s.ctx c.in_ok-ctx_copy-in-Show.ctx_copy s.phi stages.stages c.in_ok-ctx_copy-in-Show.ensures
-    (rw (c.as_slice.ensures, c.as_slice-in-Show.ensures) at stages.ensures) (sym c.is_shown.ensures ∙ c.if-not-is_shown.false) c.requires.lawful)
+    (hom_range c.args.so.now.world.site.category (length so.world.functors) (length so.maps) c.args.stmt.now c.in-Hom.x c.in-Hom.y c.in-Hom.is c.requires.range).1
 
 pub returns-in_default-clause-stop : goal.returns-in_default-clause-stop
-returns-in_default-clause-stop c = refused_other c.args.cat.now c.args.budget c.args.so.now c.args.stmt.now c.in_default.not-Presheaf c.in_default.not-Map c.in_default.not-Product c.in_default.not-Coproduct c.in_default.not-Equalizer c.in_default.not-Coequalizer c.in_default.not-Pullback c.in_default.not-Pushout c.in_default.not-Image c.in_default.not-Empty c.in_default.not-Hom c.in_default.not-Show
+returns-in_default-clause-stop c = refused_other c.args.so.now.world.site.category c.args.so.now c.args.stmt.now c.in_default.not-Presheaf c.in_default.not-Map c.in_default.not-Product c.in_default.not-Coproduct c.in_default.not-Equalizer c.in_default.not-Coequalizer c.in_default.not-Pullback c.in_default.not-Pushout c.in_default.not-Image c.in_default.not-Empty c.in_default.not-Hom c.in_default.not-Show
+
+pub returns-in-Presheaf-clause-unchanged : goal.returns-in-Presheaf-clause-unchanged
+returns-in-Presheaf-clause-unchanged c = on_err_weaker c.declare_presheaf.result (unchanged_kept c.args.so.now c.declare_presheaf.new.so) c.declare_presheaf.ensures.unchanged
+
+pub returns-in-Map-clause-unchanged : goal.returns-in-Map-clause-unchanged
+returns-in-Map-clause-unchanged c = on_err_weaker c.declare_map.result (unchanged_kept c.args.so.now c.declare_map.new.so) c.declare_map.ensures.unchanged
+
+pub returns-in-Product-clause-unchanged : goal.returns-in-Product-clause-unchanged
+returns-in-Product-clause-unchanged c = on_err_weaker c.build.result (unchanged_kept c.args.so.now c.build.new.so) c.build.ensures.unchanged
+
+pub returns-in-Coproduct-clause-unchanged : goal.returns-in-Coproduct-clause-unchanged
+returns-in-Coproduct-clause-unchanged c = on_err_weaker c.build-in-Coproduct.result (unchanged_kept c.args.so.now c.build-in-Coproduct.new.so) c.build-in-Coproduct.ensures.unchanged
+
+pub returns-in-Equalizer-clause-unchanged : goal.returns-in-Equalizer-clause-unchanged
+returns-in-Equalizer-clause-unchanged c = on_err_weaker c.build-in-Equalizer.result (unchanged_kept c.args.so.now c.build-in-Equalizer.new.so) c.build-in-Equalizer.ensures.unchanged
+
+pub returns-in-Coequalizer-clause-unchanged : goal.returns-in-Coequalizer-clause-unchanged
+returns-in-Coequalizer-clause-unchanged c = on_err_weaker c.build-in-Coequalizer.result (unchanged_kept c.args.so.now c.build-in-Coequalizer.new.so) c.build-in-Coequalizer.ensures.unchanged
+
+pub returns-in-Pullback-clause-unchanged : goal.returns-in-Pullback-clause-unchanged
+returns-in-Pullback-clause-unchanged c = on_err_weaker c.build-in-Pullback.result (unchanged_kept c.args.so.now c.build-in-Pullback.new.so) c.build-in-Pullback.ensures.unchanged
+
+pub returns-in-Pushout-clause-unchanged : goal.returns-in-Pushout-clause-unchanged
+returns-in-Pushout-clause-unchanged c = on_err_weaker c.build-in-Pushout.result (unchanged_kept c.args.so.now c.build-in-Pushout.new.so) c.build-in-Pushout.ensures.unchanged
+
+pub returns-in-Image-clause-unchanged : goal.returns-in-Image-clause-unchanged
+returns-in-Image-clause-unchanged c = on_err_weaker c.build-in-Image.result (unchanged_kept c.args.so.now c.build-in-Image.new.so) c.build-in-Image.ensures.unchanged
+
+pub returns-in-Empty-clause-unchanged : goal.returns-in-Empty-clause-unchanged
+returns-in-Empty-clause-unchanged c = on_err_weaker c.build-in-Empty.result (unchanged_kept c.args.so.now c.build-in-Empty.new.so) c.build-in-Empty.ensures.unchanged
+
+pub returns-in-Hom-clause-unchanged : goal.returns-in-Hom-clause-unchanged
+returns-in-Hom-clause-unchanged c = on_err_weaker c.list.result (unchanged_kept c.args.so.now c.list.new.so) c.list.ensures.unchanged
+
+pub returns-in_default-clause-unchanged : goal.returns-in_default-clause-unchanged
+returns-in_default-clause-unchanged c = unchanged_kept c.args.so.now c.args.so.now refl

@@ -15,7 +15,7 @@ returns-in-Over-clause-stop c =
     let parallel : (same_domain k so c.args.m c.args.n && same_codomain k so c.args.m c.args.n) ≡ true =
     rw (c.map-first.ensures, c.map-second.ensures) at (sym c.are_parallel.ensures ∙ c.if-not-are_parallel.false) in
     one_over k c.args.room (same_domain k so c.args.m c.args.n && same_codomain k so c.args.m c.args.n) (AsEqualizer k so c.args.m c.args.n c.args.functor) parallel
-    (IsEqualizer k (functor_at so.functors m.dom) (functor_at so.functors m.cod) m.map n.map)
+    (IsEqualizer k (functor_at so.world.functors m.dom) (functor_at so.world.functors m.cod) m.map n.map)
     (λ Z l. between c.args.functor (from k so c.args.m) l ∷ []) (λ Z l has. (l, has, refl)) c.in_ok-equalizer.field-0 c.in-Over.is
     (rw (c.functor-x.ensures, c.functor-y.ensures, c.map-first.ensures, c.map-second.ensures) at c.in_ok-equalizer.ensures.exists)
     (rw (c.functor-x.ensures, c.functor-y.ensures, c.map-first.ensures, c.map-second.ensures) at c.in_ok-equalizer.ensures.over)

@@ -12,7 +12,7 @@ returns-in-Over-clause-stop c =
     let so = c.args.so.now in
     let m = map_at so.maps c.args.m in
     two_over k c.args.room true (AsImage k so c.args.m c.args.functor) refl
-    (IsImage k (functor_at so.functors m.dom) (functor_at so.functors m.cod) m.map)
+    (IsImage k (functor_at so.world.functors m.dom) (functor_at so.world.functors m.cod) m.map)
     (λ Z l r. between (from k so c.args.m) c.args.functor l ∷ between c.args.functor (to k so c.args.m) r ∷ []) (λ Z l r has. (l, r, has, refl)) c.in_ok-image.field-0 c.in-Over.is
     (rw (c.functor-x.ensures, c.functor-y.ensures, c.map-map.ensures) at c.in_ok-image.ensures.exists)
     (rw (c.functor-x.ensures, c.functor-y.ensures, c.map-map.ensures) at c.in_ok-image.ensures.over)

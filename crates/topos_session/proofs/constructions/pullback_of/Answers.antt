@@ -15,7 +15,7 @@ returns-in-Over-clause-stop c =
     let parallel : same_codomain k so c.args.m c.args.n ≡ true =
     rw (c.map-first.ensures, c.map-second.ensures) at (sym c.have_same_codomain.ensures ∙ c.if-not-have_same_codomain.false) in
     two_over k c.args.room (same_codomain k so c.args.m c.args.n) (AsPullback k so c.args.m c.args.n c.args.functor) parallel
-    (IsPullback k (functor_at so.functors m.dom) (functor_at so.functors n.dom) (functor_at so.functors m.cod) m.map n.map)
+    (IsPullback k (functor_at so.world.functors m.dom) (functor_at so.world.functors n.dom) (functor_at so.world.functors m.cod) m.map n.map)
     (λ Z l r. between c.args.functor (from k so c.args.m) l ∷ between c.args.functor (from k so c.args.n) r ∷ []) (λ Z l r has. (l, r, has, refl)) c.in_ok-pullback.field-0 c.in-Over.is
     (rw (c.functor-x.ensures, c.functor-y.ensures, c.functor-z.ensures, c.map-first.ensures, c.map-second.ensures) at c.in_ok-pullback.ensures.exists)
     (rw (c.functor-x.ensures, c.functor-y.ensures, c.functor-z.ensures, c.map-first.ensures, c.map-second.ensures) at c.in_ok-pullback.ensures.over)

@@ -15,7 +15,7 @@ returns-in-Over-clause-stop c =
     let parallel : same_domain k so c.args.m c.args.n ≡ true =
     rw (c.map-first.ensures, c.map-second.ensures) at (sym c.have_same_domain.ensures ∙ c.if-not-have_same_domain.false) in
     two_over k c.args.room (same_domain k so c.args.m c.args.n) (AsPushout k so c.args.m c.args.n c.args.functor) parallel
-    (IsPushout k (functor_at so.functors m.dom) (functor_at so.functors m.cod) (functor_at so.functors n.cod) m.map n.map)
+    (IsPushout k (functor_at so.world.functors m.dom) (functor_at so.world.functors m.cod) (functor_at so.world.functors n.cod) m.map n.map)
     (λ Z l r. between (to k so c.args.m) c.args.functor l ∷ between (to k so c.args.n) c.args.functor r ∷ []) (λ Z l r has. (l, r, has, refl)) c.in_ok-pushout.field-0 c.in-Over.is
     (rw (c.functor-x.ensures, c.functor-y.ensures, c.functor-z.ensures, c.map-first.ensures, c.map-second.ensures) at c.in_ok-pushout.ensures.exists)
     (rw (c.functor-x.ensures, c.functor-y.ensures, c.functor-z.ensures, c.map-first.ensures, c.map-second.ensures) at c.in_ok-pushout.ensures.over)

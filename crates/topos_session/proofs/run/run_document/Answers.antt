@@ -23,7 +23,7 @@ returns-in-Err-Refused-step-clause-runs c =
 pub returns-clause-runs : goal.returns-clause-runs
 returns-clause-runs c =
     let l = c.loop-session in
-    all_answered c.args.doc c.into_doc-2.result c.args.budget l.answers l.session l.invariant (leb-true _ _ (sym c.is_done.ensures ∙ c.loop-session-test.false)) c.into_doc-2.ensures
+    all_answered c.args.doc c.into_doc-2.result c.args.budget l.answers l.session c.cells-cells.result l.invariant (leb-true _ _ (sym c.is_done.ensures ∙ c.loop-session-test.false)) c.into_doc-2.ensures c.cells-cells.ensures
 
 pub returns-in-Err-Budget-clause-runs : goal.returns-in-Err-Budget-clause-runs
 returns-in-Err-Budget-clause-runs c =
