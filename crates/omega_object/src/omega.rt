@@ -30,8 +30,8 @@ impl Omega {
     ghost use Rattle.omega_object.specs.TruthValues.{IsNumber, closed_sieves, sieve_at, implication};
     ghost use Rattle.omega_object.specs.Tables.{IsOmegaOn, IsInRange, mask_at, rows_at};
 
-    /// The closed sieve number k on c.
-    pub(crate) fn sieve(&self, c: u32, k: u32) -> ArrowMask
+    /// The arrows of the closed sieve number k on c.
+    pub fn sieve(&self, c: u32, k: u32) -> ArrowMask
         requires object { c < length self.now.sieves }
         requires number { k < length (rows_at self.now c) }
         ensures { arrows_in result ≡ mask_at (rows_at self.now c) k }

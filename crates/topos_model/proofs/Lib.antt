@@ -39,6 +39,6 @@ pub mod CertificateNodes
 mod WorkedTerms
 mod WorkedCertificates
 mod WorkedDerivations
-mod WorkedRuns
+pub mod WorkedRuns
 mod WorkedVerdicts
 mod WorkedWhy

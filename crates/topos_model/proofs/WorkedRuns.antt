@@ -12,12 +12,12 @@ use Rattle.topos_model.specs.declared.value.Val.TheBlock.{hidden-the_row-Val-0, 
 use Rattle.topos_model.specs.declared.raw.RawFunctor.{RawFunctor}
 use Rattle.topos_model.specs.declared.doc.Doc.{Doc}
 use Rattle.topos_model.specs.declared.stmt.Stmt.{Stmt}
-use Rattle.topos_model.specs.declared.stmt.Stmt.TheVariants.{Presheaf, Show, Valid}
+use Rattle.topos_model.specs.declared.stmt.Stmt.TheVariants.{Presheaf, Show}
 use Rattle.topos_model.specs.declared.answer.Answer.{Answer}
-use Rattle.topos_model.specs.declared.answer.Answer.TheVariants.{Quiet, Shown, Verdict}
+use Rattle.topos_model.specs.declared.answer.Answer.TheVariants.{Quiet, Shown}
 use Rattle.topos_model.specs.declared.answer.Tuple.{Tuple}
 use Rattle.topos_model.specs.declared.answer.End.TheVariants.{Whole, Checked, Refused, Budget}
-use Rattle.topos_model.specs.declared.fault.Fault.TheVariants.{NotBuilt, NotAssociative}
+use Rattle.topos_model.specs.declared.fault.Fault.TheVariants.{NotAssociative}
 use Rattle.topos_model.specs.categories.Category.{into, is_sieve, sieves, generated, pull}
 use Rattle.topos_model.specs.topologies.Cover.{is_cover, is_dense, is_listed, covers}
 use Rattle.topos_model.specs.types.Values.{same, number_of, first_of, second_of, arrows_of, entries_of}
@@ -37,28 +37,25 @@ use Rattle.topos_model.specs.formulas.Typing.{typed}
 use Rattle.topos_model.specs.statements.Needs.{parts, inner, step_terms, terms_of, term_needs, types_of, needs, under, named}
 use Rattle.topos_model.specs.statements.StatementFaults.{applied, depends_on_covers, foreign_map_fault, formula_fault, term_fault, step_fault, typing_fault}
 use Rattle.topos_model.specs.statements.Cells.{presheaf_cells, is_named, without_repeats, width, cells_of, types_cells, types_under, cells}
-use Rattle.topos_model.specs.statements.Declarations.{Declared, nothing, with_functor, category_of, site_of, map_ends, world_under, with_types, made_between, cells_so_far}
+use Rattle.topos_model.specs.statements.Declarations.{Declared, nothing, with_functor, category_of, site_of, map_ends, world_under, with_types, cells_so_far}
 use Rattle.topos_model.specs.statements.Refusals.{topologies_fault, sheaf_refusal, foreign_refusal, term_refusal, ends_fit, refusal, late_refusal}
 use Rattle.topos_model.specs.statements.Answers.{unforced}
-use Rattle.topos_model.specs.statements.Run.{everything, counted, counted_behind, site_refusal, IsAnswered, not_built, with_its_types, ended, refused, over, answered, site_refused, site_accepted, RunOf}
+use Rattle.topos_model.specs.statements.Run.{everything, site_refusal, IsAnswered, with_its_types, ended, over, answered, site_refused, site_accepted, RunOf}
 use Rattle.topos_model.specs.statements.Check.{leading, checked_part, CheckOf}
-use Rattle.topos_model.specs.statements.Form.{variable_functor, is_propositional, is_category_listing, is_presheaf_listing, is_known, is_in_range, declares, is_map_listing, are_in_range, are_distinct, has_range}
-use Rattle.topos_model.specs.statements.Built.{is_built, today}
-use Rattle.topos_model.specs.statements.StagedRun.{StagedRunOf, in_range}
 
 -- what the examples compute with
 unfoldable pub opened : Unit {0}
-unfolding sublists out-Ty out-Val hidden-the_row-Ty-0 shown-the_row-Ty-0 hidden-the_row-Term-0 hidden-the_row-Val-0 hidden-the_row-Entry-1 hidden-the_row-Assign-2 shown-the_row-Val-0 shown-the_row-Entry-1 shown-the_row-Assign-2 Carrier.hidden Carrier.shown Carrier.out into is_sieve sieves generated pull is_cover is_dense is_listed covers same number_of first_of second_of arrows_of entries_of elements restr places closed_below closed_under_covers is_closed_sieve in_entries base_elements base_along omega_elements omega_along two_elements two_along along and_forced or_forced implies_forced not_forced exists_forced forall_forced unique_forced tuples shown locally always falsity_forced meaning all_ends composable listed_composite listed_category listed_row listed_presheaf associativity_fault functoriality_fault candidates has_composite filled_composite filled_category has_restriction fills filling_pair composite_row filled_row filled_rows filled_presheaf has_ends listed_composite_fault listing_fault is_determined missing_composite_fault category_fault declared has_entry total_fault missing_restriction_fault restriction_fault presheaf_fault is_among_covers least intersection listed_sieves least_twice stability_fault intersection_fault least_twice_fault topology_fault first_topology_fault agrees matching_families amalgamations sheaf_fault choices same_type typed parts inner step_terms terms_of term_needs types_of needs under named applied depends_on_covers foreign_map_fault formula_fault term_fault step_fault typing_fault presheaf_cells is_named without_repeats width cells_of types_cells types_under cells category_of site_of map_ends world_under with_types cells_so_far topologies_fault sheaf_refusal foreign_refusal term_refusal ends_fit refusal late_refusal unforced counted counted_behind made_between site_refusal leading checked_part variable_functor is_propositional is_category_listing is_presheaf_listing is_known is_in_range declares is_map_listing are_in_range are_distinct has_range is_built
+unfolding sublists out-Ty out-Val hidden-the_row-Ty-0 shown-the_row-Ty-0 hidden-the_row-Term-0 hidden-the_row-Val-0 hidden-the_row-Entry-1 hidden-the_row-Assign-2 shown-the_row-Val-0 shown-the_row-Entry-1 shown-the_row-Assign-2 Carrier.hidden Carrier.shown Carrier.out into is_sieve sieves generated pull is_cover is_dense is_listed covers same number_of first_of second_of arrows_of entries_of elements restr places closed_below closed_under_covers is_closed_sieve in_entries base_elements base_along omega_elements omega_along two_elements two_along along and_forced or_forced implies_forced not_forced exists_forced forall_forced unique_forced tuples shown locally always falsity_forced meaning all_ends composable listed_composite listed_category listed_row listed_presheaf associativity_fault functoriality_fault candidates has_composite filled_composite filled_category has_restriction fills filling_pair composite_row filled_row filled_rows filled_presheaf has_ends listed_composite_fault listing_fault is_determined missing_composite_fault category_fault declared has_entry total_fault missing_restriction_fault restriction_fault presheaf_fault is_among_covers least intersection listed_sieves least_twice stability_fault intersection_fault least_twice_fault topology_fault first_topology_fault agrees matching_families amalgamations sheaf_fault choices same_type typed parts inner step_terms terms_of term_needs types_of needs under named applied depends_on_covers foreign_map_fault formula_fault term_fault step_fault typing_fault presheaf_cells is_named without_repeats width cells_of types_cells types_under cells category_of site_of map_ends world_under with_types cells_so_far topologies_fault sheaf_refusal foreign_refusal term_refusal ends_fit refusal late_refusal unforced site_refusal leading checked_part
 opened = tt
 
 -- graphs, with a loop l and two edges e and f from p to q; the equal pairs
 abbrev pub raw : RawFunctor
 raw = record { sizes = 2 ∷ 3 ∷ []; along = record { arrow = 2; entries = (0, 0) ∷ (1, 0) ∷ (2, 1) ∷ [] } ∷ record { arrow = 3; entries = (0, 1) ∷ (1, 1) ∷ (2, 0) ∷ [] } ∷ [] }
 
-abbrev G : Stmt
+abbrev pub G : Stmt
 G = Presheaf 0 raw
 
-abbrev equal_pairs : Stmt
+abbrev pub equal_pairs : Stmt
 equal_pairs = Show 0 (record { types = Base 0 ∷ Base 0 ∷ [] }) (Eq (Var 1) (Var 0))
 
 abbrev pub graphs : Doc
@@ -83,21 +80,21 @@ site_lawful : site_refusal everything graphs ≡ None
 unfolding opened
 site_lawful = refl
 
-pair : ℕ → ℕ → Tuple
+pub pair : ℕ → ℕ → Tuple
 pair m n = record { vals = El m ∷ El n ∷ [] }
 
-abbrev pairs_at : List (ℕ × ℕ) → List Tuple
+abbrev pub pairs_at : List (ℕ × ℕ) → List Tuple
 pairs_at pairs = map (λ p. pair p.0 p.1) pairs
 
-abbrev shown_pairs : Answer
+abbrev pub shown_pairs : Answer
 shown_pairs = Shown (record { types = Base 0 ∷ Base 0 ∷ [] }) (pairs_at ((0, 0) ∷ (1, 1) ∷ []) ∷ pairs_at ((0, 0) ∷ (1, 1) ∷ (2, 2) ∷ []) ∷ [])
 
 -- what is declared behind the graph, and behind the statement on its pairs
-behind_graph : Declared
+pub behind_graph : Declared
 unfolding opened
 behind_graph = with_functor (with_types nothing G) (filled_presheaf (category_of graphs) raw)
 
-behind_pairs : Declared
+pub behind_pairs : Declared
 unfolding opened behind_graph
 behind_pairs = with_types behind_graph equal_pairs
 
@@ -151,32 +148,3 @@ no_monoid = record graphs { cat = record { objects = 1; ends = (0, 0) ∷ (0, 0)
 no_monoid_refused : RunOf no_monoid 84 [] (Refused None (NotAssociative 1 1 1))
 unfolding opened
 no_monoid_refused = site_refused refl
-
--- as far as the language is run the pairs are shown with the same cells, and a verdict is refused
-pairs_answered_today : IsAnswered today graphs 84 behind_graph equal_pairs shown_pairs behind_pairs
-unfolding opened behind_graph behind_pairs pair
-pairs_answered_today = record {
-  types = record { is_run = refl; accepted = refl; within = omega arith };
-  goes_on = refl;
-  answers = (refl, refl);
-  within = omega arith;
-}
-
-abbrev verdict : Stmt
-verdict = Valid 0 (record { types = [] }) Truth
-
-abbrev with_verdict : Doc
-with_verdict = record graphs { stmts = G ∷ verdict ∷ [] }
-
-graph_answered_today : IsAnswered today with_verdict 16 nothing G Quiet behind_graph
-unfolding opened behind_graph
-graph_answered_today = record {
-  types = record { is_run = refl; accepted = refl; within = omega arith };
-  goes_on = refl;
-  answers = (refl, refl);
-  within = omega arith;
-}
-
-verdict_refused : StagedRunOf with_verdict 16 (Quiet ∷ []) (Refused (Some 4) NotBuilt)
-unfolding opened
-verdict_refused = in_range refl (site_accepted refl (answered graph_answered_today (refused (not_built refl))))

@@ -8,5 +8,3 @@ pub mod Answers
 pub mod Refusals
 pub mod Check
 pub mod RunLaws
-pub mod Built
-pub mod StagedRun

@@ -7,7 +7,7 @@ use Rattle.topos_model.specs.declared.answer.Answer.{Answer}
 use Rattle.topos_model.specs.declared.answer.End.{End}
 use Rattle.topos_model.specs.declared.answer.End.TheVariants.{Refused}
 use Rattle.topos_model.specs.declared.fault.Fault.{Fault}
-use Rattle.topos_model.specs.statements.StagedRun.{StagedRunOf}
+use Rattle.topos_session.specs.StagedRun.{StagedRunOf}
 use Rattle.topos_text.specs.TextFaults.{SpellsWithin, TextFault}
 use Rattle.topos_report.specs.EmptyDocument.{empty_document}
 use Rattle.topos_report.specs.Report.{report}

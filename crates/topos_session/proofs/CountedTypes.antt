@@ -11,8 +11,8 @@ use Rattle.topos_model.specs.declared.stmt.Stmt.TheVariants.{Presheaf, Map, Prod
 use Rattle.topos_model.specs.formulas.Typing.{Typing, typed}
 use Rattle.topos_model.specs.statements.Needs.{named, parts, product, inner, found, term_needs, types_of, terms_of, needs}
 use Rattle.topos_model.specs.statements.Cells.{is_named}
-use Rattle.topos_model.specs.statements.Form.{variable_functor, same_functor, is_propositional}
-use Rattle.topos_model.specs.statements.Built.{is_built}
+use Rattle.topos_session.specs.Ranges.{variable_functor, same_functor, is_propositional}
+use Rattle.topos_session.specs.Built.{is_built}
 use Rattle.topos_session.proofs.PropositionalTypes.{named_reversed, built_formula, propositional_typed}
 
 -- what is counted for one subterm

@@ -35,8 +35,8 @@ use Rattle.topos_model.specs.formulas.Forcing.{shown}
 use Rattle.topos_model.specs.statements.Declarations.{Declared, DeclaredMap, site_of, map_ends, world_under, functor_at, map_at, ends_at, domain_at, codomain_at, components_at, with_types}
 use Rattle.topos_model.specs.statements.Answers.{element_pairs, functor_map}
 use Rattle.topos_model.specs.statements.Refusals.{foreign_refusal, sheaf_refusal, term_refusal, ends_fit, refusal}
-use Rattle.topos_model.specs.statements.Form.{is_propositional, is_trivial}
-use Rattle.topos_model.specs.statements.Built.{is_built}
+use Rattle.topos_session.specs.Ranges.{is_propositional, is_trivial}
+use Rattle.topos_session.specs.Built.{is_built}
 use Rattle.topos_session.specs.Variables.{AreFunctors, presheaf_world}
 use Rattle.topos_session.specs.declared.declarations.FunctorMap.{FunctorMap}
 use Rattle.topos_session.specs.declared.declarations.Declarations.{Declarations}

@@ -6,7 +6,8 @@ use Rattle.topos_model.specs.declared.stmt.Stmt.{Stmt}
 use Rattle.topos_model.specs.declared.stmt.Stmt.TheVariants.{Presheaf, Map, Product, Coproduct, Equalizer, Coequalizer, Pullback, Pushout, Image, Empty, Hom, Show}
 use Rattle.topos_model.specs.declared.doc.Doc.{Doc}
 use Rattle.topos_model.specs.categories.Listed.{all_ends}
-use Rattle.topos_model.specs.statements.Form.{max_statements, is_category_listing, is_in_range, declares, are_in_range, has_range}
+use Rattle.topos_model.specs.statements.Form.{is_category_listing}
+use Rattle.topos_session.specs.Ranges.{max_statements, is_in_range, declares, are_in_range, has_range}
 
 no_right : (a b : Bool) → b ≡ false → (a && b) ≡ false
 no_right true b e = e

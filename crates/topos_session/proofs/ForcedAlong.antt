@@ -9,8 +9,8 @@ use Rattle.topos_model.specs.declared.term.Term.{Term, Var, Eq, Truth, Falsity, 
 use Rattle.topos_model.specs.categories.Category.{Category, dom, cod, compose, into}
 use Rattle.topos_model.specs.types.Types.{Presheaf}
 use Rattle.topos_model.specs.Laws.{IsCategory}
-use Rattle.topos_model.specs.statements.Form.{is_propositional}
-use Rattle.topos_model.proofs.FormEquations.{is_propositional-And, is_propositional-Implies}
+use Rattle.topos_session.specs.Ranges.{is_propositional}
+use Rattle.topos_session.proofs.FormEquations.{is_propositional-And, is_propositional-Implies}
 use Rattle.topos_model.specs.formulas.Forcing.{forces}
 use Rattle.topos_session.specs.declared.variable.Variable.{Variable}
 use Rattle.topos_session.specs.Variables.{AreFunctors, AreVariables, assigned, element_along, forced_along, presheaf_world}

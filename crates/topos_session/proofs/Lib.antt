@@ -1,3 +1,4 @@
+pub mod FormEquations
 pub mod TrivialCovers
 pub mod Restricted
 pub mod VariableElements
@@ -30,3 +31,4 @@ pub mod RunSteps
 pub mod CellsSoFar
 pub mod NoTypes
 pub mod ShownTypes
+mod WorkedRuns

@@ -10,7 +10,7 @@ use Rattle.topos_model.specs.declared.fault.Fault.TheVariants.{NotParallel}
 use Rattle.topos_model.specs.categories.Category.{Category}
 use Rattle.topos_model.specs.types.Types.{Presheaf}
 use Rattle.topos_model.specs.Laws.{IsFunctor}
-use Rattle.topos_model.specs.statements.Form.{is_in_range, declares}
+use Rattle.topos_session.specs.Ranges.{is_in_range, declares}
 use Rattle.topos_model.specs.statements.Answers.{shape_of, map_shape}
 use Rattle.topos_model.specs.statements.Cells.{presheaf_cells}
 use Rattle.functor_store.specs.declared.fault.StoreFault.{StoreFault}

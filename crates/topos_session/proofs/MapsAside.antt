@@ -13,7 +13,7 @@ use Rattle.topos_model.specs.topologies.Cover.{Site}
 use Rattle.topos_model.specs.types.Types.{Presheaf}
 use Rattle.topos_model.specs.types.Values.{same}
 use Rattle.topos_model.specs.formulas.Forcing.{World, Assigned, along, locally, always, falsity_forced, and_forced, implies_forced, forces, value, values, tuples, shown}
-use Rattle.topos_model.specs.statements.Form.{variable_functor, same_functor, is_propositional}
+use Rattle.topos_session.specs.Ranges.{variable_functor, same_functor, is_propositional}
 use Rattle.topos_model.proofs.MeaningEquations.{value-Var, forces-Eq, forces-Truth, forces-Falsity, forces-And, forces-Implies}
 
 module _ (s : Site) (functors : List Presheaf) (maps more : List (List (List (Val × Val)))) where

@@ -3,8 +3,8 @@ use Rattle.std.proofs.Common.{◌≡◌, ℕ, true, false, List, Option, Some, N
 use denote.Hole.Carrier
 use Rattle.topos_model.specs.declared.term.Term.{Term, Eq, Truth, Falsity, And, Implies, Eq', And', Implies', more_of-Term as only, end_of-Term as end}
 use Rattle.topos_model.specs.declared.term.Term.TheBlock.{hidden-the_row-Term-0}
-use Rattle.topos_model.specs.statements.Form.{variable_functor, same_functor, is_propositional}
-use Rattle.topos_model.proofs.FormEquations.{is_propositional-Eq}
+use Rattle.topos_session.specs.Ranges.{variable_functor, same_functor, is_propositional}
+use Rattle.topos_session.proofs.FormEquations.{is_propositional-Eq}
 
 both_some : (m n : Option ℕ) → same_functor m n ≡ true → (m ≡ None → ⊥) × (n ≡ None → ⊥)
 both_some (Some m) (Some n) e = (λ h. cc, λ h. cc)

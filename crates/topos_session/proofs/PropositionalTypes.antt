@@ -12,10 +12,10 @@ use Rattle.topos_model.specs.formulas.Typing.{typed}
 use Rattle.topos_model.specs.statements.Needs.{named}
 use Rattle.topos_model.specs.statements.Cells.{is_named}
 use Rattle.topos_model.specs.statements.StatementFaults.{applied}
-use Rattle.topos_model.specs.statements.Built.{is_built}
+use Rattle.topos_session.specs.Built.{is_built}
 use Rattle.finite_lists.proofs.Lists.{all_each, each_all}
 use Rattle.topos_session.proofs.ForcedAlong.{In-reverse}
-use Rattle.topos_model.specs.statements.Form.{variable_functor, same_functor, is_propositional}
+use Rattle.topos_session.specs.Ranges.{variable_functor, same_functor, is_propositional}
 use denote.Hole.Carrier
 use Rattle.topos_model.specs.declared.ty.Ty.TheBlock.{hidden-the_row-Ty-0}
 

@@ -15,7 +15,7 @@ use Rattle.topos_model.specs.categories.Category.{Category}
 use Rattle.topos_model.specs.types.Types.{Presheaf, base_elements}
 use Rattle.topos_model.specs.Laws.{IsCategory, size}
 use Rattle.topos_model.specs.statements.Needs.{named}
-use Rattle.topos_model.specs.statements.Form.{is_functor_name, is_propositional}
+use Rattle.topos_session.specs.Ranges.{is_functor_name, is_propositional}
 use Rattle.topos_model.specs.formulas.Forcing.{Assigned, forces, values, shown}
 use Rattle.topos_model.specs.declared.answer.Tuple.{Tuple}
 use Rattle.topos_model.specs.statements.Answers.{tuple_of}

@@ -9,9 +9,10 @@ use Rattle.topos_model.specs.declared.answer.Answer.{Answer}
 use Rattle.topos_model.specs.declared.answer.End.{End}
 use Rattle.topos_model.specs.declared.answer.End.TheVariants.{Whole, Refused, Budget}
 use Rattle.topos_model.specs.declared.fault.Fault.{Fault}
-use Rattle.topos_model.specs.statements.Run.{counted, Runs, ended, refused, over, answered, site_accepted}
-use Rattle.topos_model.specs.statements.Built.{today}
-use Rattle.topos_model.specs.statements.StagedRun.{StagedRunOf, in_range}
+use Rattle.topos_model.specs.statements.Declarations.{cells_so_far}
+use Rattle.topos_model.specs.statements.Run.{Runs, ended, refused, over, answered, site_accepted}
+use Rattle.topos_session.specs.Built.{today}
+use Rattle.topos_session.specs.StagedRun.{StagedRunOf, in_range}
 use Rattle.topos_session.specs.declared.stop.Stop.TheVariants as Stop
 use Rattle.topos_session.specs.Progress.{Progress}
 use Rattle.topos_session.specs.Steps.{IsOpened, IsStep, IsStop}
@@ -53,7 +54,7 @@ one_answered doc budget answers p q answer before step = record {
       (rw (step.moved.0, step.moved.1, step.moved.2, ← add_assoc p.doc.site_len p.answered 1) at runs))));
 }
 
-whole_end : (p : Progress) → Runs today p.doc p.budget p.declared (p.doc.site_len + p.answered + 1) [] [] (Whole (counted today p.doc p.declared))
+whole_end : (p : Progress) → Runs today p.doc p.budget p.declared (p.doc.site_len + p.answered + 1) [] [] (Whole (cells_so_far p.doc p.declared))
 whole_end p = ended
 
 -- a run to its end, of the document that is handed back
@@ -62,7 +63,7 @@ ended_by doc back budget answers end is whole =
     subst (λ (d : Doc). StagedRunOf d budget answers end) (sym is) (subst (λ (l : List Answer). StagedRunOf doc budget l end) (append-nil answers) whole)
 
 -- all statements are answered
-pub all_answered : (doc back : Doc) (budget : ℕ) (answers : List Answer) (p : Progress) (cells : ℕ) → HasAnswered doc budget answers p → length p.doc.stmts ≤ p.answered → back ≡ p.doc → cells ≡ counted today p.doc p.declared →
+pub all_answered : (doc back : Doc) (budget : ℕ) (answers : List Answer) (p : Progress) (cells : ℕ) → HasAnswered doc budget answers p → length p.doc.stmts ≤ p.answered → back ≡ p.doc → cells ≡ cells_so_far p.doc p.declared →
     StagedRunOf back budget answers (Whole cells)
 all_answered doc back budget answers p cells before done is all =
     ended_by doc back budget answers (Whole cells) (is ∙ before.same) (before.goes_on [] (Whole cells) (rw (drop_all p.answered p.doc.stmts done, all) (whole_end p)))

@@ -15,7 +15,7 @@ use Rattle.topos_model.specs.Laws.{IsFunctor}
 use Rattle.topos_model.specs.categories.Listed.{all_ends}
 use Rattle.topos_model.specs.categories.Filling.{filled_category}
 use Rattle.topos_model.specs.categories.CategoryFaults.{category_fault}
-use Rattle.topos_model.specs.statements.Form.{is_in_range, declares, are_in_range, has_range, is_trivial}
+use Rattle.topos_session.specs.Ranges.{is_in_range, declares, are_in_range, has_range, is_trivial}
 use Rattle.topos_model.specs.declared.ty.Ty.{Ty}
 use Rattle.topos_model.specs.topologies.Cover.{Site}
 use Rattle.topos_model.specs.statements.Needs.{under, needs}

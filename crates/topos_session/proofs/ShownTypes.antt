@@ -12,7 +12,7 @@ use Rattle.topos_model.specs.declared.stmt.Stmt.TheVariants.{Show}
 use Rattle.topos_model.specs.formulas.Typing.{Typing, typed}
 use Rattle.topos_model.specs.statements.Needs.{named, parts, product, inner, found, term_needs, types_of, terms_of, needs}
 use Rattle.topos_model.specs.statements.Cells.{is_named}
-use Rattle.topos_model.specs.statements.Form.{variable_functor, same_functor, is_propositional}
+use Rattle.topos_session.specs.Ranges.{variable_functor, same_functor, is_propositional}
 use Rattle.topos_model.proofs.NeedsEquations.{parts-Base, parts-One, parts-Omega, parts-Two}
 use Rattle.topos_model.proofs.FormEquations.{is_named-Base, is_named-One, is_named-Omega, is_named-Two}
 use Rattle.topos_session.proofs.PropositionalTypes.{propositional_typed, named_type, named_reversed, variable_typed}

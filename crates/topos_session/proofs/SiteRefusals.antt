@@ -16,10 +16,10 @@ use Rattle.topos_model.specs.categories.CategoryFaults.{category_fault}
 use Rattle.topos_model.specs.topologies.TopologyFaults.{topology_fault, first_topology_fault}
 use Rattle.topos_model.specs.statements.Declarations.{category_of, site_of}
 use Rattle.topos_model.specs.statements.Refusals.{topologies_fault}
-use Rattle.topos_model.specs.statements.Form.{has_range, is_trivial}
+use Rattle.topos_session.specs.Ranges.{has_range, is_trivial}
 use Rattle.topos_model.specs.statements.Run.{site_refusal, site_refused}
-use Rattle.topos_model.specs.statements.Built.{today}
-use Rattle.topos_model.specs.statements.StagedRun.{out_of_range, in_range}
+use Rattle.topos_session.specs.Built.{today}
+use Rattle.topos_session.specs.StagedRun.{out_of_range, in_range}
 use Rattle.fin_category.specs.declared.fault.CatFault.{CatFault}
 use Rattle.fin_category.specs.declared.fault.CatFault.TheVariants.{CompositeMissing, CompositeTwice, CompositeEnds, NotAssociative, NoMemory}
 use Rattle.fin_category.specs.Faults.{IsFaultOf}

@@ -34,8 +34,8 @@ use Rattle.topos_model.specs.formulas.Forcing.{shown}
 use Rattle.topos_model.specs.statements.Declarations.{Declared, DeclaredMap, category_of, map_ends, world_under, functor_at, domain_at, codomain_at, components_at}
 use Rattle.topos_model.specs.statements.Answers.{tuple_of, shape_of, map_shape, functor_map, Makes, Answers}
 use Rattle.topos_model.specs.statements.Refusals.{foreign_refusal, term_refusal, ends_fit, refusal, late_refusal, IsRefusal}
-use Rattle.topos_model.specs.statements.Form.{is_in_range, is_trivial}
-use Rattle.topos_model.specs.statements.Built.{is_built}
+use Rattle.topos_session.specs.Ranges.{is_in_range, is_trivial}
+use Rattle.topos_session.specs.Built.{is_built}
 use Rattle.topos_session.specs.Variables.{presheaf_world}
 use Rattle.topos_session.specs.declared.declarations.FunctorMap.{FunctorMap}
 use Rattle.topos_session.specs.declared.declarations.Declarations.{Declarations}

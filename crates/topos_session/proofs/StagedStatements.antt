@@ -17,9 +17,9 @@ use Rattle.topos_model.specs.statements.Cells.{types_under}
 use Rattle.topos_model.specs.statements.Declarations.{Declared, cells_so_far, site_of, with_types}
 use Rattle.topos_model.specs.statements.Answers.{Answers}
 use Rattle.topos_model.specs.statements.Refusals.{IsRefusal, late_refusal}
-use Rattle.topos_model.specs.statements.Form.{is_in_range}
-use Rattle.topos_model.specs.statements.Run.{counted, counted_behind, IsCounted, IsAnswered, IsRefused, IsOver, with_its_types, with_its_answer, not_built, at_once}
-use Rattle.topos_model.specs.statements.Built.{is_built, today}
+use Rattle.topos_session.specs.Ranges.{is_in_range}
+use Rattle.topos_model.specs.statements.Run.{IsCounted, IsAnswered, IsRefused, IsOver, with_its_types, with_its_answer, not_built, at_once}
+use Rattle.topos_session.specs.Built.{is_built, today}
 use Rattle.sealed_world.specs.SealedWorlds.{CountedWorld, counted_cells, world_cells, cells_with, IsGrownBy}
 use Rattle.topos_session.specs.declared.declarations.FunctorMap.{FunctorMap}
 use Rattle.topos_session.specs.declared.declarations.Declarations.{Declarations}
@@ -37,8 +37,7 @@ use Rattle.topos_session.proofs.StagedAnswers.{as_refusal, no_late_refusal, refu
 use Rattle.topos_session.proofs.CellsSoFar.{cells_counted, types_with, counted_next, counted_same}
 
 -- the cells so far
-pub cells_are : (doc : Doc) (so : Declarations) (i : ℕ) (live : Bool) → IsUnderWay doc so i live → live ≡ true → world_cells so.world ≡ counted today doc (declared_by doc so i)
-unfolding counted
+pub cells_are : (doc : Doc) (so : Declarations) (i : ℕ) (live : Bool) → IsUnderWay doc so i live → live ≡ true → world_cells so.world ≡ cells_so_far doc (declared_by doc so i)
 cells_are doc so i live way on =
     sym (cells_counted doc so (types_by doc i) so.world.types (one_topology doc.tops way.covers) way.site (counted_same (types_under 0 (types_by doc i)) so.world (way.counted on)))
 
@@ -79,8 +78,7 @@ module _ (doc : Doc) (so : Declarations) (i : ℕ) (way : IsUnderWay doc so i tr
     with_its = next_types doc so i stmt next built
 
     -- the cells with the types of the statement
-    types_cost : counted today doc (with_types here stmt) ≡ cells_with so.world (needs [] stmt)
-    unfolding counted
+    types_cost : cells_so_far doc (with_types here stmt) ≡ cells_with so.world (needs [] stmt)
     types_cost =
         ap (cells_so_far doc) with_its
         ∙ cells_counted doc so behind (so.world.types ++ needs [] stmt) (one_topology doc.tops way.covers) way.site (types_with doc so.world i stmt next first (way.counted refl))
@@ -119,8 +117,7 @@ module _ (doc : Doc) (so : Declarations) (i : ℕ) (way : IsUnderWay doc so i tr
           let c = counted_next doc so.world i stmt next first (way.counted refl) mid.world sealed.types in
           record { sealed = λ T j u. subst (λ l. In l T) (sym types) (c.sealed T j u); only = λ T j. c.only T (subst (λ l. In l T) types j) }
 
-      costs : (after : Declarations) → after.world.site ≡ so.world.site → after.world.types ≡ mid.world.types → counted_behind today doc here (declared_by doc after (i + 1)) ≡ world_cells after.world
-      unfolding counted_behind
+      costs : (after : Declarations) → after.world.site ≡ so.world.site → after.world.types ≡ mid.world.types → cells_so_far doc (declared_by doc after (i + 1)) ≡ world_cells after.world
       costs after site types =
           cells_counted doc after behind after.world.types (one_topology doc.tops way.covers) (site ∙ way.site) (counted_same (types_under 0 behind) after.world (counted_after after types))
 

@@ -24,8 +24,8 @@ use Rattle.finite_lists.specs.Members.{In}
 use Rattle.topos_model.specs.declared.ty.Ty.{Ty}
 use Rattle.topos_model.specs.statements.Needs.{named, needs}
 use Rattle.topos_model.specs.statements.Cells.{is_named, hom_cells}
-use Rattle.topos_model.specs.statements.Form.{is_propositional, declares}
-use Rattle.topos_model.specs.statements.Built.{is_built}
+use Rattle.topos_session.specs.Ranges.{is_propositional, declares}
+use Rattle.topos_session.specs.Built.{is_built}
 use Rattle.topos_model.specs.statements.Answers.{tuple_of, map_shape, functor_map}
 use Rattle.presheaf_core.specs.declared.fault.FunctorFault.{FunctorFault}
 use Rattle.presheaf_core.specs.declared.fault.FunctorFault.TheVariants.{RestrictionMissing, NotTotal, NotFunctorial, NoMemory}

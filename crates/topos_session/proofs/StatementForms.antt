@@ -8,7 +8,8 @@ use Rattle.topos_model.specs.declared.term.Term.{Term}
 use Rattle.topos_model.specs.declared.stmt.Stmt.{Stmt}
 use Rattle.topos_model.specs.declared.stmt.Stmt.TheVariants.{Presheaf, Map, Product, Coproduct, Equalizer, Coequalizer, Pullback, Pushout, Image, Empty, Hom, Show}
 use Rattle.topos_session.specs.Constructions.{is_construction}
-use Rattle.topos_model.specs.statements.Form.{is_presheaf_listing, is_map_listing, is_known, declares, is_in_range}
+use Rattle.topos_model.specs.statements.Form.{is_presheaf_listing, is_map_listing}
+use Rattle.topos_session.specs.Ranges.{is_known, declares, is_in_range}
 
 -- the number of functors in a count
 abbrev first : Option (ℕ × ℕ) → ℕ

@@ -20,7 +20,8 @@ use Rattle.topos_model.specs.presheaves.PresheafFaults.{IsPresheafListing}
 use Rattle.topos_model.specs.presheaves.MapFaults.{has_image, IsMapListing}
 use Rattle.topos_model.specs.statements.Needs.{named}
 use Rattle.topos_model.specs.statements.Cells.{is_named}
-use Rattle.topos_model.specs.statements.Form.{is_functor_name, is_propositional, along_fits, is_presheaf_listing, is_map_listing, is_known, is_in_range}
+use Rattle.topos_model.specs.statements.Form.{along_fits, is_presheaf_listing, is_map_listing}
+use Rattle.topos_session.specs.Ranges.{is_functor_name, is_propositional, is_known, is_in_range}
 use Rattle.topos_session.proofs.DistinctNumbers.{distinct_numbers}
 use Rattle.topos_session.proofs.ForcedAlong.{In-reverse}
 use Rattle.topos_session.proofs.StatementForms.{range-Presheaf, range-Map, range-Hom, range-Show}

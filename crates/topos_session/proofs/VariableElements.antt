@@ -7,8 +7,8 @@ use Rattle.topos_model.specs.declared.term.Term.{Term, Var}
 use Rattle.topos_model.specs.categories.Category.{Category, cod}
 use Rattle.topos_model.specs.types.Types.{Presheaf}
 use Rattle.topos_model.specs.Laws.{act}
-use Rattle.topos_model.specs.statements.Form.{variable_functor}
-use Rattle.topos_model.proofs.FormEquations.{variable_functor-Var}
+use Rattle.topos_session.specs.Ranges.{variable_functor}
+use Rattle.topos_session.proofs.FormEquations.{variable_functor-Var}
 use Rattle.topos_session.specs.declared.variable.Variable.{Variable}
 use Rattle.topos_session.specs.Variables.{none, functor_at, AreFunctors, IsVariable, AreVariables, functors_inside, element_along}
 

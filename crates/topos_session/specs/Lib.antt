@@ -1,3 +1,6 @@
+pub mod Ranges
+pub mod Built
+pub mod StagedRun
 pub mod Extensions
 pub mod Variables
 pub mod Declarations

@@ -8,7 +8,7 @@ use Rattle.topos_model.specs.categories.CategoryFaults.{category_fault}
 use Rattle.topos_model.specs.statements.Needs.{under, needs}
 use Rattle.topos_model.specs.statements.Cells.{is_named, types_under}
 use Rattle.topos_model.specs.statements.Declarations.{Declared, site_of}
-use Rattle.topos_model.specs.statements.Form.{are_in_range, has_range, is_trivial}
+use Rattle.topos_session.specs.Ranges.{are_in_range, has_range, is_trivial}
 use Rattle.sealed_world.specs.SealedWorlds.{CountedWorld, world_cells}
 use Rattle.topos_session.specs.declared.declarations.Declarations.{Declarations}
 use Rattle.topos_session.specs.Declarations.{with_counted, AreLawful}

@@ -28,8 +28,8 @@ use Rattle.topos_model.specs.presheaves.MapFaults.{listed_map, map_fault as faul
 use Rattle.topos_model.specs.statements.Needs.{needs}
 use Rattle.topos_model.specs.statements.Cells.{objects_of, hom_cells}
 use Rattle.topos_model.specs.statements.Answers.{tuple_of, shape_of, map_shape, functor_map}
-use Rattle.topos_model.specs.statements.Form.{declares}
-use Rattle.topos_model.specs.statements.Built.{is_built}
+use Rattle.topos_session.specs.Ranges.{declares}
+use Rattle.topos_session.specs.Built.{is_built}
 use Rattle.topos_session.specs.Variables.{functor_at, presheaf_world}
 use Rattle.topos_session.specs.Declarations.{declared_map, AreLawful, with_functor, with_presheaf, with_map, with_cells}
 use Rattle.topos_session.specs.Constructions.{is_construction, between, property, fit}

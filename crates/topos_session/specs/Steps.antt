@@ -12,10 +12,10 @@ use Rattle.topos_session.specs.declared.stop.Stop.TheVariants as stop
 use Rattle.topos_session.specs.declared.stop.SiteStop.{SiteStop}
 use Rattle.topos_session.specs.declared.stop.SiteStop.TheVariants as site_stop
 use Rattle.topos_model.specs.statements.Declarations.{nothing}
-use Rattle.topos_model.specs.statements.Form.{has_range}
+use Rattle.topos_session.specs.Ranges.{has_range}
 use Rattle.topos_model.specs.statements.Run.{site_refusal, IsAnswered, IsRefused, IsOver}
-use Rattle.topos_model.specs.statements.Built.{today}
-use Rattle.topos_model.specs.statements.StagedRun.{StagedRunOf}
+use Rattle.topos_session.specs.Built.{today}
+use Rattle.topos_session.specs.StagedRun.{StagedRunOf}
 use Rattle.topos_session.specs.Progress.{Progress}
 
 -- the stop by a fault of a listed category

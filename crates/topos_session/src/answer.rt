@@ -3,7 +3,7 @@ ghost use Rattle.std.specs.Prelude.{◌≡◌, ◌≤◌, ◌<◌, ◌^◌, true
 ghost use Rattle.topos_model.specs.declared.stmt.Stmt.TheVariants as statement;
 ghost use Rattle.topos_model.specs.presheaves.PresheafFaults.{IsPresheafListing};
 ghost use Rattle.topos_model.specs.presheaves.MapFaults.{IsMapListing};
-ghost use Rattle.topos_model.specs.statements.Form.{is_in_range};
+ghost use Rattle.topos_session.specs.Ranges.{is_in_range};
 ghost use Rattle.sealed_world.specs.SealedWorlds.{world_cells};
 ghost use Rattle.topos_session.specs.Declarations.{AreLawful, IsKept};
 ghost use Rattle.topos_session.specs.Constructions.{is_construction};

@@ -1,6 +1,6 @@
 // The statements that make a presheaf by its universal property.
 ghost use Rattle.std.specs.Prelude.{◌≡◌, ◌≤◌, ◌<◌, ◌&&◌, [], ◌∷◌, true, eqb, length, IfOk, IfErr};
-ghost use Rattle.topos_model.specs.statements.Form.{is_in_range};
+ghost use Rattle.topos_session.specs.Ranges.{is_in_range};
 ghost use Rattle.natural_maps.specs.Room.{max_room};
 ghost use Rattle.topos_session.specs.Declarations.{AreLawful};
 ghost use Rattle.topos_session.specs.Constructions.{is_construction, property, fit, same_domain, same_codomain, AsProduct, AsCoproduct, AsEqualizer, AsCoequalizer, AsPullback, AsPushout, AsImage, AsInitial, IsMade, IsUnmade};

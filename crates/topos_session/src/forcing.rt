@@ -3,7 +3,7 @@ ghost use Rattle.std.specs.Prelude.{◌≡◌, ◌≢◌, ◌<◌, ℕ, true, No
 ghost use Rattle.topos_model.specs.declared.term.Term.{Var};
 ghost use Rattle.topos_model.specs.categories.Category.{cod};
 ghost use Rattle.topos_model.specs.Laws.{IsCategory};
-ghost use Rattle.topos_model.specs.statements.Form.{variable_functor, is_propositional};
+ghost use Rattle.topos_session.specs.Ranges.{variable_functor, is_propositional};
 ghost use Rattle.topos_session.specs.Variables.{AreFunctors, AreVariables, functors_inside, element_along, forced_along};
 
 use crate::Variable;

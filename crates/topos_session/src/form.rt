@@ -3,12 +3,12 @@ ghost use Rattle.std.specs.Prelude.{◌≡◌, ◌&&◌, map, reverse, slice_get
 ghost use Rattle.std.specs.List.{list_all};
 ghost use Rattle.topos_model.specs.statements.Needs.{named};
 ghost use Rattle.topos_model.specs.statements.Cells.{is_named};
-ghost use Rattle.topos_model.specs.statements.Form.{variable_functor, same_functor, is_propositional, is_trivial};
+ghost use Rattle.topos_session.specs.Ranges.{variable_functor, same_functor, is_propositional, is_trivial};
 
 use topos_model::{Ctx, Term, TopDecl, Ty};
 
 // Whether a type names a functor.
-#[tactic(auto, using(topos_model::proofs::FormEquations::known_rules))]
+#[tactic(auto, using(topos_model::proofs::FormEquations::named_rules))]
 fn is_named(ty: &Ty) -> bool
     ensures { result ≡ is_named ty.now }
 {
@@ -60,7 +60,7 @@ fn functor_inside(types: &[Ty], k: u32) -> Option<u32>
 }
 
 // The functor of a variable.
-#[tactic(auto, using(topos_model::proofs::FormEquations::variable_rules))]
+#[tactic(auto, using(crate::proofs::FormEquations::variable_rules))]
 fn variable_functor(types: &[Ty], term: &Term) -> Option<u32>
     ensures { result ≡ variable_functor (map named (reverse types.now)) term.now }
 {
@@ -99,7 +99,7 @@ fn same_functor(left: Option<u32>, right: Option<u32>) -> bool
 }
 
 // Whether a formula is propositional over variables of these types, the outermost first.
-#[tactic(auto, using(topos_model::proofs::FormEquations::propositional_rules))]
+#[tactic(auto, using(crate::proofs::FormEquations::propositional_rules))]
 fn is_propositional(types: &[Ty], phi: &Term) -> bool
     ensures { result ≡ is_propositional (map named (reverse types.now)) phi.now }
 {

@@ -1,7 +1,7 @@
 // Whether the numbers of a document are in range.
 ghost use Rattle.std.specs.Prelude.{◌≡◌, ◌≤◌, ◌+◌, ◌&&◌, length, eqb, leb, ltb, IfOk};
 ghost use Rattle.std.specs.List.{list_all};
-ghost use Rattle.topos_model.specs.statements.Form.{is_known, is_in_range, declares, are_in_range, has_range, max_statements};
+ghost use Rattle.topos_session.specs.Ranges.{is_known, is_in_range, declares, are_in_range, has_range, max_statements};
 
 use crate::listing::{is_map_listing, is_presheaf_listing};
 use fin_category::{all_ends, is_listing};
@@ -19,7 +19,7 @@ fn are_few(site_len: u32, stmts: usize) -> bool
 }
 
 // Whether a type, if it names a functor, names one of the first so many.
-#[tactic(auto, using(topos_model::proofs::FormEquations::known_rules))]
+#[tactic(auto, using(crate::proofs::FormEquations::known_rules))]
 fn is_known(functors: usize, ty: &Ty) -> bool
     ensures { result ≡ is_known functors ty.now }
 {

@@ -1,7 +1,7 @@
 // The run of a whole document.
 ghost use Rattle.std.specs.Prelude.{◌≡◌, ◌≤◌, IfOk};
 ghost use Rattle.natural_maps.specs.Room.{max_room};
-ghost use Rattle.topos_model.specs.statements.StagedRun.{StagedRunOf};
+ghost use Rattle.topos_session.specs.StagedRun.{StagedRunOf};
 
 use crate::{Session, SiteStop, Stop};
 use std::alloc::Global;

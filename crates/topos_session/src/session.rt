@@ -1,8 +1,7 @@
 // A document that is run statement by statement.
 ghost use Rattle.std.specs.Prelude.{◌≡◌, ◌≤◌, ◌<◌, ◌+◌, true, false, leb, length, IfOk, IfErr, OnErr};
 ghost use Rattle.natural_maps.specs.Room.{max_room};
-ghost use Rattle.topos_model.specs.statements.Run.{counted};
-ghost use Rattle.topos_model.specs.statements.Built.{today};
+ghost use Rattle.topos_model.specs.statements.Declarations.{cells_so_far};
 ghost use Rattle.topos_session.specs.Steps.{category_stop};
 
 use crate::answer::answer;
@@ -108,7 +107,7 @@ impl Session {
     /// The cells of what the statements so far declare and count.
     pub fn cells(&self) -> u64
         requires live { self.now.live ≡ true }
-        ensures { result ≡ counted today self.now.doc self.now.declared }
+        ensures { result ≡ cells_so_far self.now.doc self.now.declared }
     {
         self.so.world.cells()
     }

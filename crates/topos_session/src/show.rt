@@ -3,7 +3,7 @@ ghost use Rattle.std.specs.Prelude.{◌≡◌, ◌<◌, ◌++◌, [], ◌∷◌,
 ghost use Rattle.std.specs.List.{list_all, range_with_len};
 ghost use Rattle.topos_model.specs.Laws.{IsCategory};
 ghost use Rattle.topos_model.specs.statements.Needs.{named};
-ghost use Rattle.topos_model.specs.statements.Form.{is_functor_name, is_propositional};
+ghost use Rattle.topos_session.specs.Ranges.{is_functor_name, is_propositional};
 ghost use Rattle.topos_model.specs.formulas.Forcing.{shown};
 ghost use Rattle.topos_model.specs.statements.Answers.{tuple_of};
 ghost use Rattle.topos_session.specs.Variables.{AreFunctors, AreVariables, assigned, presheaf_world, forced_extensions};

@@ -1,5 +1,5 @@
 -- What the statements of a document have declared so far, and the world of a statement.
-use Rattle.std.specs.Prelude.{ℕ, ◌+◌, ◌-◌, false, List, [], ◌∷◌, ◌++◌, map, length, get_or, drop, sum, None}
+use Rattle.std.specs.Prelude.{ℕ, ◌+◌, false, List, [], ◌∷◌, ◌++◌, map, length, get_or, None}
 use Rattle.topos_model.specs.declared.ty.Ty.{Ty, One}
 use Rattle.topos_model.specs.declared.context.MapTy.{MapTy}
 use Rattle.topos_model.specs.declared.value.Val.{Val}
@@ -119,11 +119,6 @@ with_on_functor d k X = record (with_others d (presheaf_cells k X)) { on_functor
 -- the same with the types that a statement counts
 unfoldable pub with_types : Declared → Stmt → Declared
 with_types d stmt = record d { types = d.types ++ (under stmt, needs (map_ends d) stmt) ∷ [] }
-
--- the cells of the functors and maps that a statement makes between these
-unfoldable pub made_between : Doc → Declared → Declared → ℕ
-made_between doc d next =
-    sum (map (presheaf_cells (category_of doc)) (drop (length d.functors) next.functors)) + (next.others - d.others)
 
 -- all cells that are counted so far
 unfoldable pub cells_so_far : Doc → Declared → ℕ

@@ -1,5 +1,5 @@
 -- The run of a document: its site is checked, and its statements are taken in order, each until something ends the run or it answers.
-use Rattle.std.specs.Prelude.{◌≡◌, ◌≤◌, ◌<◌, ℕ, ◌+◌, Bool, true, false, cond, not, List, [], ◌∷◌, Option, Some, None}
+use Rattle.std.specs.Prelude.{◌≡◌, ◌≤◌, ◌<◌, ℕ, ◌+◌, Bool, true, false, not, List, [], ◌∷◌, Option, Some, None}
 use Rattle.finite_lists.specs.First.{or_else, some_if}
 use Rattle.topos_model.specs.declared.doc.TopDecl.{TopDecl}
 use Rattle.topos_model.specs.declared.doc.Doc.{Doc}
@@ -10,29 +10,20 @@ use Rattle.topos_model.specs.declared.answer.End.TheVariants.{Whole, Refused, Bu
 use Rattle.topos_model.specs.declared.fault.Fault.{Fault}
 use Rattle.topos_model.specs.declared.fault.Fault.TheVariants.{NotBuilt}
 use Rattle.topos_model.specs.categories.CategoryFaults.{category_fault}
-use Rattle.topos_model.specs.statements.Declarations.{Declared, nothing, with_types, made_between, cells_so_far}
+use Rattle.topos_model.specs.statements.Declarations.{Declared, nothing, with_types, cells_so_far}
 use Rattle.topos_model.specs.statements.Answers.{Answers}
 use Rattle.topos_model.specs.statements.Refusals.{topologies_fault, IsRefusal, late_refusal}
 
--- how much of the language is run: which statements, which topologies, and whether cells are counted
+-- how much of the language is run: which statements and which topologies
 pub record Extent : Type 0 where
   pub statements : Stmt → Bool
   pub topologies : List TopDecl → Bool
-  pub counts : Bool
 
 -- all of it
 abbrev pub everything : Extent
-everything = record { statements = λ stmt. true; topologies = λ tops. true; counts = true }
+everything = record { statements = λ stmt. true; topologies = λ tops. true }
 
 module _ (extent : Extent) (doc : Doc) where
-  -- the cells so far, where they are counted
-  unfoldable pub counted : Declared → ℕ
-  counted d = cond extent.counts (cells_so_far doc d) 0
-
-  -- the cells behind a statement's answer: where they are not counted together, the statement's own
-  unfoldable pub counted_behind : Declared → Declared → ℕ
-  counted_behind d next = cond extent.counts (cells_so_far doc next) (made_between doc d next)
-
   -- why the document is refused before its statements: topologies that are not run are refused where the category is lawful
   unfoldable pub site_refusal : Option Fault
   site_refusal =
@@ -43,14 +34,14 @@ module _ (extent : Extent) (doc : Doc) (budget : ℕ) where
   pub record IsCounted (d : Declared) (stmt : Stmt) : Type 0 where
     pub is_run : extent.statements stmt ≡ true
     pub accepted : IsRefusal doc d stmt None
-    pub within : counted extent doc (with_types d stmt) ≤ budget
+    pub within : cells_so_far doc (with_types d stmt) ≤ budget
 
   -- the statement answers, what it counts is within the budget, and this is declared behind it
   pub record IsAnswered (d : Declared) (stmt : Stmt) (answer : Answer) (next : Declared) : Type 0 where
     pub types : IsCounted d stmt
     pub goes_on : late_refusal doc (with_types d stmt) stmt ≡ None
     pub answers : Answers doc (with_types d stmt) stmt answer next
-    pub within : counted_behind extent doc d next ≤ budget
+    pub within : cells_so_far doc next ≤ budget
 
   -- the statement is refused
   pub data IsRefused (d : Declared) (stmt : Stmt) : Fault → Type 0 where
@@ -60,13 +51,13 @@ module _ (extent : Extent) (doc : Doc) (budget : ℕ) where
 
   -- the cells with the statement's types alone are over the budget, or those with all that it counts
   pub data IsOver (d : Declared) (stmt : Stmt) : Type 0 where
-    with_its_types : extent.statements stmt ≡ true → IsRefusal doc d stmt None → budget < counted extent doc (with_types d stmt) → IsOver d stmt
+    with_its_types : extent.statements stmt ≡ true → IsRefusal doc d stmt None → budget < cells_so_far doc (with_types d stmt) → IsOver d stmt
     with_its_answer : (answer : Answer) (next : Declared) → IsCounted d stmt → late_refusal doc (with_types d stmt) stmt ≡ None
-        → Answers doc (with_types d stmt) stmt answer next → budget < counted_behind extent doc d next → IsOver d stmt
+        → Answers doc (with_types d stmt) stmt answer next → budget < cells_so_far doc next → IsOver d stmt
 
   -- the statements from number n on
   pub data Runs : Declared → ℕ → List Stmt → List Answer → End → Type 0 where
-    ended : {d : Declared} {n : ℕ} → Runs d n [] [] (Whole (counted extent doc d))
+    ended : {d : Declared} {n : ℕ} → Runs d n [] [] (Whole (cells_so_far doc d))
     refused : {d : Declared} {n : ℕ} {stmt : Stmt} {rest : List Stmt} {fault : Fault} → IsRefused d stmt fault → Runs d n (stmt ∷ rest) [] (Refused (Some n) fault)
     over : {d : Declared} {n : ℕ} {stmt : Stmt} {rest : List Stmt} → IsOver d stmt → Runs d n (stmt ∷ rest) [] (Budget n)
     answered : {d next : Declared} {n : ℕ} {stmt : Stmt} {rest : List Stmt} {answer : Answer} {answers : List Answer} {end : End}

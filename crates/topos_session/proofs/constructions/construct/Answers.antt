@@ -1,6 +1,6 @@
 use Rattle.std.proofs.Common.{◌≡◌, true, length, subst}
 use Rattle.topos_model.specs.declared.stmt.Stmt.{Stmt}
-use Rattle.topos_model.specs.statements.Form.{is_in_range}
+use Rattle.topos_session.specs.Ranges.{is_in_range}
 use Rattle.topos_session.proofs.StatementForms.{no_other_construction}
 use Rattle.topos_session.proofs.MadeFunctors.{product_range, coproduct_range, equalizer_range, coequalizer_range, pullback_range, pushout_range, image_range}
 use Rattle.topos_session.proofs.constructions.construct.Goals as goal

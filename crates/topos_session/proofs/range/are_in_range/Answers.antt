@@ -1,6 +1,6 @@
 use Rattle.std.proofs.Common.{◌≡◌, Some, sym, ◌∙◌, arith}
 use Rattle.std.proofs.lemmas.List.{drop_all}
-use Rattle.topos_model.specs.statements.Form.{declares}
+use Rattle.topos_session.specs.Ranges.{declares}
 use Rattle.topos_session.proofs.DocumentRanges.{are_in_range-empty, statement_fails, statement_passes, statement_ends, declares_few}
 use Rattle.topos_session.proofs.range.are_in_range.Goals as goal
 

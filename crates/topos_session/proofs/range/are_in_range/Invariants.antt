@@ -1,5 +1,5 @@
 use Rattle.std.proofs.Common.{◌≡◌, ◌*◌, ◌≤◌, drop}
-use Rattle.topos_model.specs.statements.Form.{are_in_range}
+use Rattle.topos_session.specs.Ranges.{are_in_range}
 use Rattle.topos_session.proofs.range.are_in_range.Given as goal
 
 abbrev pub invariant-loop-stmt : goal.invariant-loop-stmt

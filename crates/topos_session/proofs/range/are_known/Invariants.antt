@@ -1,6 +1,6 @@
 use Rattle.std.proofs.Common.{◌≡◌, true, take}
 use Rattle.std.specs.List.{list_all}
-use Rattle.topos_model.specs.statements.Form.{is_known}
+use Rattle.topos_session.specs.Ranges.{is_known}
 use Rattle.topos_session.proofs.range.are_known.Given as goal
 
 abbrev pub invariant-loop-ty : goal.invariant-loop-ty

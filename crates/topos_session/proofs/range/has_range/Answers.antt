@@ -1,5 +1,5 @@
 use Rattle.std.proofs.Common.{◌≡◌, sym, ◌∙◌}
-use Rattle.topos_model.specs.statements.Form.{are_in_range, has_range}
+use Rattle.topos_session.specs.Ranges.{are_in_range, has_range}
 use Rattle.topos_session.proofs.DocumentRanges.{many_fail, category_fails, statements_decide}
 use Rattle.topos_session.proofs.range.has_range.Goals as goal
 use Rattle.topos_session.proofs.range.has_range.Goals.{then-not-are_few-via-then-not-are_few, then-not-are_few-via-else-not-are_few+then-not-is_listing}

@@ -5,7 +5,7 @@ use Rattle.topos_model.specs.declared.doc.Doc.{Doc}
 use Rattle.topos_model.specs.declared.doc.TopDecl.{TopDecl}
 use Rattle.topos_model.specs.declared.raw.Family.{Family}
 use Rattle.topos_model.specs.categories.Filling.{filled_category}
-use Rattle.topos_model.specs.statements.Form.{is_trivial}
+use Rattle.topos_session.specs.Ranges.{is_trivial}
 use Rattle.topos_model.specs.statements.Declarations.{site_of}
 use Rattle.sealed_world.specs.SealedWorlds.{CountedWorld, bare_world, world_cells}
 use Rattle.fin_category.proofs.ListedNumbers.{within_if}

@@ -5,7 +5,7 @@ use Rattle.topos_model.specs.declared.stmt.Stmt.{Stmt}
 use Rattle.topos_model.specs.declared.stmt.Stmt.TheVariants.{Presheaf, Map, Product, Coproduct, Equalizer, Coequalizer, Pullback, Pushout, Image, Empty, Hom, Show}
 use Rattle.topos_model.specs.statements.Cells.{is_named}
 use Rattle.topos_model.specs.statements.Needs.{named}
-use Rattle.topos_model.specs.statements.Form.{is_trivial, is_propositional}
+use Rattle.topos_session.specs.Ranges.{is_trivial, is_propositional}
 use Rattle.topos_model.specs.statements.Run.{Extent}
 
 -- presheaves, natural maps and their lists, limits, images and colimits, and propositional formulas over functors
@@ -26,4 +26,4 @@ is_built _ = false
 
 -- no covers but the maximal ones
 abbrev pub today : Extent
-today = record { statements = is_built; topologies = is_trivial; counts = true }
+today = record { statements = is_built; topologies = is_trivial }

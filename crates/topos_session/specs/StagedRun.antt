@@ -5,9 +5,9 @@ use Rattle.topos_model.specs.declared.answer.Answer.{Answer}
 use Rattle.topos_model.specs.declared.answer.End.{End}
 use Rattle.topos_model.specs.declared.answer.End.TheVariants.{Refused}
 use Rattle.topos_model.specs.declared.fault.Fault.TheVariants.{NotBuilt}
-use Rattle.topos_model.specs.statements.Form.{has_range}
+use Rattle.topos_session.specs.Ranges.{has_range}
 use Rattle.topos_model.specs.statements.Run.{RunsWith}
-use Rattle.topos_model.specs.statements.Built.{today}
+use Rattle.topos_session.specs.Built.{today}
 
 -- documents whose numbers are out of range are spelled by no text, and refused
 pub data StagedRunOf (doc : Doc) (budget : ℕ) : List Answer → End → Type 0 where

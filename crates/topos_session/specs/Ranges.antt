@@ -1,0 +1,91 @@
+-- Documents whose numbers are in range, as far as the statements need it that are run, and the forms of formulas that are run.
+use Rattle.std.specs.Prelude.{ℕ, ◌+◌, Bool, true, false, ◌&&◌, not, List, [], ◌∷◌, length, eqb, ltb, leb, slice_get, Option, Some, None}
+use Rattle.std.specs.List.{list_all}
+use Rattle.topos_model.specs.declared.ty.Ty.{Ty, Base}
+use Rattle.topos_model.specs.declared.term.Term.{Term, Var, Eq', Truth, Falsity, And', Implies', more_of-Term as only, end_of-Term as end}
+use Rattle.topos_model.specs.declared.stmt.Stmt.{Stmt}
+use Rattle.topos_model.specs.declared.stmt.Stmt.TheVariants.{Presheaf, Map, Product, Coproduct, Equalizer, Coequalizer, Pullback, Pushout, Image, Empty, Hom, Show}
+use Rattle.topos_model.specs.declared.doc.TopDecl.{TopDecl}
+use Rattle.topos_model.specs.declared.doc.Doc.{Doc}
+use Rattle.topos_model.specs.categories.Listed.{all_ends}
+use Rattle.topos_model.specs.statements.Form.{is_category_listing, is_presheaf_listing, is_map_listing}
+
+-- a functor name below n
+unfoldable pub is_functor_name : ℕ → Ty → Bool
+is_functor_name n (Base m) = ltb m n
+is_functor_name n _ = false
+
+-- the functor of a variable, by the functors of all variables
+unfoldable pub variable_functor : List ℕ → Term → Option ℕ
+variable_functor Γ (Var k) = slice_get Γ k
+variable_functor Γ _ = None
+
+abbrev pub same_functor : Option ℕ → Option ℕ → Bool
+same_functor (Some m) (Some n) = eqb m n
+same_functor _ _ = false
+
+-- made of truth, falsity, equations of two variables of one functor, conjunction and implication
+unfoldable pub is_propositional : List ℕ → Term → Bool
+is_propositional Γ Truth = true
+is_propositional Γ Falsity = true
+is_propositional Γ (Eq' _ (only t end) _ (only u end)) = same_functor (variable_functor Γ t) (variable_functor Γ u)
+is_propositional Γ (And' _ (only φ end) _ (only ψ end)) = is_propositional Γ φ && is_propositional Γ ψ
+is_propositional Γ (Implies' _ (only φ end) _ (only ψ end)) = is_propositional Γ φ && is_propositional Γ ψ
+is_propositional Γ _ = false
+
+-- a functor that it names is among the first n
+unfoldable pub is_known : ℕ → Ty → Bool
+is_known n (Base m) = ltb m n
+is_known n _ = true
+
+-- how many functors and maps a statement declares, where it is of a kind that is run
+unfoldable pub declares : Stmt → Option (ℕ × ℕ)
+declares (Presheaf functor raw) = Some (1, 0)
+declares (Map m x y raw) = Some (0, 1)
+declares (Product x y z p q) = Some (1, 2)
+declares (Coproduct x y z p q) = Some (1, 2)
+declares (Equalizer m n z i) = Some (1, 1)
+declares (Coequalizer m n z q) = Some (1, 1)
+declares (Pullback m n z p q) = Some (1, 2)
+declares (Pushout m n z i j) = Some (1, 2)
+declares (Image m z e j) = Some (1, 2)
+declares (Empty z) = Some (1, 0)
+declares (Hom x y) = Some (0, 0)
+declares (Show under ctx φ) = Some (0, 0)
+declares _ = None
+
+-- the numbers that a statement of such a kind uses are in range, where n functors and l maps are declared before it; a functor is declared behind them
+unfoldable pub is_in_range : ℕ → List (ℕ × ℕ) → ℕ → ℕ → Stmt → Bool
+is_in_range objects ends n l (Presheaf functor raw) = eqb functor n && is_presheaf_listing objects ends raw
+is_in_range objects ends n l (Map m x y raw) = ltb x n && ltb y n && is_map_listing objects raw.entries
+is_in_range objects ends n l (Product x y z p q) = eqb z n && ltb x n && ltb y n
+is_in_range objects ends n l (Coproduct x y z p q) = eqb z n && ltb x n && ltb y n
+is_in_range objects ends n l (Equalizer m m' z i) = eqb z n && ltb m l && ltb m' l
+is_in_range objects ends n l (Coequalizer m m' z q) = eqb z n && ltb m l && ltb m' l
+is_in_range objects ends n l (Pullback m m' z p q) = eqb z n && ltb m l && ltb m' l
+is_in_range objects ends n l (Pushout m m' z i j) = eqb z n && ltb m l && ltb m' l
+is_in_range objects ends n l (Image m z e j) = eqb z n && ltb m l
+is_in_range objects ends n l (Hom x y) = ltb x n && ltb y n
+is_in_range objects ends n l (Show under ctx φ) = list_all (is_known n) ctx.types
+is_in_range objects ends n l _ = true
+
+-- the same of statements in order, up to the first of a kind that is not run
+unfoldable pub are_in_range : ℕ → List (ℕ × ℕ) → ℕ → ℕ → List Stmt → Bool
+are_in_range objects ends n l [] = true
+are_in_range objects ends n l (stmt ∷ rest) =
+    elim (declares stmt) [ Some made ↦ is_in_range objects ends n l stmt && are_in_range objects ends (n + made.0) (l + made.1) rest | None ↦ true ]
+
+-- only the maximal sieves cover
+abbrev pub is_trivial : List TopDecl → Bool
+is_trivial (top ∷ []) = not top.dense && eqb (length top.covers) 0
+is_trivial _ = false
+
+-- how many statements a document may have, those of its site among them
+abbrev pub max_statements : ℕ
+max_statements = 10000
+
+-- of a whole document
+unfoldable pub has_range : Doc → Bool
+has_range doc =
+    leb (doc.site_len + length doc.stmts) max_statements && is_category_listing doc.cat
+    && are_in_range doc.cat.objects (all_ends doc.cat) 0 0 doc.stmts
