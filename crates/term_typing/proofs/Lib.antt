@@ -2,6 +2,8 @@ pub mod Typings
 pub mod Sorts
 pub mod TermTypings
 pub mod TypingRules
+pub mod NotedEquations
 pub mod CountedTypes
+pub mod Listing
 pub mod ContextProducts
 pub mod Occurrences
