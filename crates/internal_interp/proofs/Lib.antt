@@ -9,3 +9,4 @@ pub mod AbstractionFacts
 pub mod Unbound
 pub mod ImageFacts
 pub mod FormFacts
+pub mod SealedContexts

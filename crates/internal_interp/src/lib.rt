@@ -12,11 +12,13 @@ mod images;
 mod interpreter;
 mod products;
 mod readings;
+mod scopes;
 mod terms;
 mod variables;
 mod widths;
 
 pub use context::Context;
 pub use interpreter::{Interpreted, Interpreter, Valued};
+pub use scopes::{formula_truths, scope, term_values};
 pub use terms::interpret_term;
 pub use variables::variable_table;

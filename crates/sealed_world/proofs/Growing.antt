@@ -49,6 +49,11 @@ charged_or_not P Q w more new (Ok x) ok err h =
     (record { idle = h.idle; faithful = faithful_kept w.site w.functors w.store (w.store.charges + more) w.store.building h.faithful; distinct = h.distinct; named = h.named })
 charged_or_not P Q w more new (Err x) ok err h = subst (λ t. IsInStore (record w { store = t })) (sym err.0) h
 
+pub charged_types : {A E : Type 0} (P Q : Type 0) (w : InStore) (more : ℕ) (new : Store) (r : Result A E) → OnOk r ((new ≡ record w.store { charges = w.store.charges + more }) × P) → OnErr r ((new ≡ w.store) × Q) → types_in new ≡ types_in w.store
+unfolding types_in
+charged_types P Q w more new (Ok x) ok err = ap types_in ok.0
+charged_types P Q w more new (Err x) ok err = ap types_in err.0
+
 pub charged_seen : (w : InStore) (more : ℕ) → seen (record w { store = record w.store { charges = w.store.charges + more } }) ≡ with_charges (seen w) more
 unfolding types_in
 charged_seen w more = refl

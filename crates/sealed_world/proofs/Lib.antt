@@ -1,3 +1,4 @@
 pub mod CountedCells
 pub mod OmegaParts
 pub mod Growing
+pub mod TruthValues

@@ -1,12 +1,14 @@
 -- A site with presheaves and types that are sealed in a store.
-use Rattle.std.specs.Prelude.{◌≡◌, ℕ, ◌+◌, ◌<◌, false, not, List, [], ◌∷◌, ◌++◌, length, map, filter, sum, None}
-use Rattle.topos_model.specs.declared.ty.Ty.{Ty, Base}
+use Rattle.std.specs.Prelude.{◌≡◌, ℕ, ◌+◌, ◌<◌, false, not, List, [], ◌∷◌, ◌++◌, length, map, filter, sum, Option, None, Some}
+use Rattle.topos_model.specs.declared.ty.Ty.{Ty, Base, Omega}
 use Rattle.finite_lists.specs.Members.{In, Distinct}
 use Rattle.topos_model.specs.topologies.Cover.{Site}
 use Rattle.topos_model.specs.types.Types.{Presheaf}
 use Rattle.topos_model.specs.statements.Cells.{is_named, presheaf_cells, types_cells}
 use Rattle.functor_store.specs.Store.{Store}
 use Rattle.functor_store.specs.Faithful.{Holds, IsFaithful}
+use Rattle.omega_object.specs.declared.omega.Omega.{Omega as TruthValues}
+use Rattle.omega_object.specs.Tables.{IsOmegaOn}
 use Rattle.exponentials.specs.Needed.{keys}
 
 -- what a caller sees of it: the presheaves by their numbers, the other types that are sealed, the cells that are charged besides, and how many cells there may be
@@ -65,6 +67,11 @@ pub record IsInStore (w : InStore) : Type 0 where
   pub faithful : IsFaithful w.site w.functors w.store
   pub distinct : Distinct (keys w.store.sealed)
   pub named : (n : ℕ) → n < length w.functors → Holds w.store (Base n)
+
+-- the truth values, there where they are sealed
+pub record HasTruthValues (s : Site) (types : List Ty) (values : Option TruthValues) : Type 0 where
+  pub lawful : (Ω : TruthValues) → values ≡ Some Ω → IsOmegaOn s Ω
+  pub there : In types Omega → (Ω : TruthValues) × (values ≡ Some Ω)
 
 -- the sealed types other than presheaves
 unfoldable pub types_in : Store → List Ty

@@ -1,5 +1,6 @@
 // A site with presheaves and types in a store.
-ghost use Rattle.std.specs.Prelude.{◌≡◌, ℕ, ◌+◌, ◌^◌, ◌<◌, ◌≤◌, ◌++◌, ◌∷◌, [], length, IfOk, OnOk, OnErr};
+ghost use Rattle.std.specs.Prelude.{◌≡◌, ℕ, ◌+◌, ◌^◌, ◌<◌, ◌≤◌, ◌++◌, ◌∷◌, [], length, IfOk, OnOk, OnErr, Some};
+ghost use denote.Bor.{Bor};
 ghost use Rattle.std.specs.List.{flat_map};
 ghost use Rattle.finite_lists.specs.Members.{In};
 ghost use Rattle.topos_model.specs.declared.ty.Ty.{Base, Omega as OmegaType};
@@ -8,6 +9,8 @@ ghost use Rattle.topos_model.specs.types.Types.{Presheaf, functor};
 ghost use Rattle.topos_model.specs.statements.Needs.{parts};
 ghost use Rattle.topos_model.specs.statements.Cells.{presheaf_cells};
 ghost use Rattle.sealed_functors.specs.Rows.{IsOverExactly};
+ghost use Rattle.omega_object.specs.declared.omega.Omega.{Omega as TruthValues};
+ghost use Rattle.omega_object.specs.Tables.{IsOmegaOn};
 ghost use Rattle.sealed_world.specs.SealedWorlds.{bare_world, world_cells, cells_with, with_presheaf, with_charges, IsGrown, IsGrownBy, IsStoreOf};
 
 use crate::ends::ends_of;
@@ -28,10 +31,12 @@ pub struct SealedWorld {
     site: Site,
     functors: Row<Functor>,
     store: FunctorStore,
+    // Where they are sealed.
+    truth_values: Option<Omega>,
 }
 
 impl Model for SealedWorld {
-    ghost use Rattle.sealed_world.specs.SealedWorlds.{CountedWorld, IsInStore, seen};
+    ghost use Rattle.sealed_world.specs.SealedWorlds.{CountedWorld, IsInStore, HasTruthValues, seen, types_in};
 
     ghost Value = { CountedWorld };
 
@@ -42,7 +47,7 @@ impl Model for SealedWorld {
 
     ghost view = { λ w. seen (record { site = w.site; functors = w.functors; store = w.store }) };
 
-    ghost invariant = { λ w. IsInStore (record { site = w.site; functors = w.functors; store = w.store }) };
+    ghost invariant = { λ w. IsInStore (record { site = w.site; functors = w.functors; store = w.store }) × HasTruthValues w.site (types_in w.store) w.truth_values };
 }
 
 impl SealedWorld {
@@ -58,6 +63,7 @@ impl SealedWorld {
             site,
             functors: Row::new(alloc),
             store,
+            truth_values: None,
         })
     }
 
@@ -89,6 +95,17 @@ impl SealedWorld {
         ensures store { IsStoreOf self.now result.now }
     {
         &self.store
+    }
+
+    /// The truth values of the site: they are there where they are counted.
+    pub fn truth_values(&self) -> Option<&Omega>
+        ensures lawful { (Ω : Bor TruthValues) → result ≡ Some Ω → IsOmegaOn self.now.site Ω.now }
+        ensures counted { In self.now.types OmegaType → (Ω : Bor TruthValues) × (result ≡ Some Ω) }
+    {
+        match &self.truth_values {
+            Some(values) => Some(values),
+            None => None,
+        }
     }
 
     /// The cells of the presheaves and of the sealed types, and of the charges.
@@ -149,10 +166,13 @@ impl SealedWorld {
         if self.store.find(&Ty::Omega).is_some() {
             return Ok(());
         }
-        if let Err(fault) = Omega::need(alloc, &mut self.store, &self.site) {
-            return Err(fault);
+        match Omega::need(alloc, &mut self.store, &self.site) {
+            Ok(values) => {
+                self.truth_values = Some(values);
+                Ok(())
+            }
+            Err(fault) => Err(fault),
         }
-        Ok(())
     }
 
     // Seals a type with its parts, of which the type of truth values is there.

@@ -6,4 +6,4 @@ use Rattle.sealed_world.proofs.world.SealedWorld.cells.Goals as goal
 pub returns : goal.returns
 returns c =
     let w = c.self.inside in
-    record { cells = c.cells.ensures.cells ∙ cells_exact (record { site = w.site; functors = w.functors; store = w.store }) c.self.invariant ∙ ap world_cells c.self.view_is }
+    record { cells = c.cells.ensures.cells ∙ cells_exact (record { site = w.site; functors = w.functors; store = w.store }) c.self.invariant.0 ∙ ap world_cells c.self.view_is }

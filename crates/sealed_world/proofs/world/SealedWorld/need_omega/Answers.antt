@@ -6,10 +6,11 @@ use Rattle.sealed_functors.specs.Rows.{IsOverExactly}
 use Rattle.type_rows.specs.TypeRows.{IsAdded}
 use Rattle.omega_object.specs.declared.omega.Omega.{Omega as Values}
 use Rattle.omega_object.specs.Tables.{IsNeeded}
-use Rattle.sealed_world.specs.SealedWorlds.{CountedWorld, InStore, seen, world_cells, cells_with, IsGrownBy, HasTypes}
+use Rattle.sealed_world.specs.SealedWorlds.{CountedWorld, InStore, seen, types_in, world_cells, cells_with, IsGrownBy, HasTypes}
 use Rattle.sealed_world.proofs.CountedCells.{seen_in}
 use Rattle.sealed_world.proofs.OmegaParts.{omega_unnamed}
 use Rattle.sealed_world.proofs.Growing.{not_grown, one_world, one_grown, over_kept, nothing_more, found_none, found_some, with_new_type}
+use Rattle.sealed_world.proofs.TruthValues.{values_there}
 use Rattle.sealed_world.proofs.world.SealedWorld.need_omega.Goals as goal
 
 -- a type that was not there was added
@@ -40,30 +41,33 @@ returns-in-Err-clause-over c =
     let w = c.self.inside in
     let v : InStore = record { site = w.site; functors = w.functors; store = w.store } in
     let free = found_none _ _ c.find.result c.find.ensures.place (sym c.is_some.ensures ∙ c.if-is_some.false) in
-    let same : cells w.store + cells_of w.site w.functors Omega ≡ cells_with (seen v) (Omega ∷ []) = with_new_type v Omega c.self.invariant omega_unnamed free in
+    let same : cells w.store + cells_of w.site w.functors Omega ≡ cells_with (seen v) (Omega ∷ []) = with_new_type v Omega c.self.invariant.0 omega_unnamed free in
     subst (λ (v : CountedWorld). IsOverExactly {A = Unit {0}} (Err c.in-Err.fault) (v.budget < cells_with v (Omega ∷ []))) c.self.view_is
     (over_kept Values (Unit {0}) c.in-Err.fault _ _ (λ over. let o = over.1 in omega (arith, o, same)) (c.in-Err.ensures.over w.functors))
 
-pub invariant_of-self-2 : goal.invariant_of-self-2
-invariant_of-self-2 c =
+pub invariant_of-self : goal.invariant_of-self
+invariant_of-self c =
     let w = c.self.inside in
     let v : InStore = record { site = w.site; functors = w.functors; store = w.store } in
     let free = found_none _ _ c.find.result c.find.ensures.place (sym c.is_some.ensures ∙ c.if-is_some.false) in
-    one_world v Omega c.need.new.store (was_added Omega w.store c.need.new.store c.in_default.ensures.needed free) c.self.invariant free (c.need.ensures.faithful w.functors c.self.invariant.faithful)
+    (
+      one_world v Omega c.need.new.store (was_added Omega w.store c.need.new.store c.in-Ok.ensures.needed free) c.self.invariant.0 free (c.need.ensures.faithful w.functors c.self.invariant.0.faithful),
+      values_there w.site (types_in c.need.new.store) c.in-Ok.values c.in-Ok.ensures.values
+    )
 
-pub returns-clause-ok : goal.returns-clause-ok
-returns-clause-ok c =
+pub returns-in-Ok-clause-ok : goal.returns-in-Ok-clause-ok
+returns-in-Ok-clause-ok c =
     let w = c.self.inside in
     let v : InStore = record { site = w.site; functors = w.functors; store = w.store } in
     let free = found_none _ _ c.find.result c.find.ensures.place (sym c.is_some.ensures ∙ c.if-is_some.false) in
     subst (λ (v : CountedWorld). IsGrownBy (Omega ∷ []) v (seen (record { site = w.site; functors = w.functors; store = c.need.new.store }))) c.self.view_is
-    (one_grown v Omega c.need.new.store (was_added Omega w.store c.need.new.store c.in_default.ensures.needed free) omega_unnamed)
+    (one_grown v Omega c.need.new.store (was_added Omega w.store c.need.new.store c.in-Ok.ensures.needed free) omega_unnamed)
 
-pub returns-clause-over : goal.returns-clause-over
-returns-clause-over c =
+pub returns-in-Ok-clause-over : goal.returns-in-Ok-clause-over
+returns-in-Ok-clause-over c =
     let w = c.self.inside in
     let v : InStore = record { site = w.site; functors = w.functors; store = w.store } in
     let free = found_none _ _ c.find.result c.find.ensures.place (sym c.is_some.ensures ∙ c.if-is_some.false) in
-    let same : cells w.store + cells_of w.site w.functors Omega ≡ cells_with (seen v) (Omega ∷ []) = with_new_type v Omega c.self.invariant omega_unnamed free in
+    let same : cells w.store + cells_of w.site w.functors Omega ≡ cells_with (seen v) (Omega ∷ []) = with_new_type v Omega c.self.invariant.0 omega_unnamed free in
     subst (λ (v : CountedWorld). v.budget < cells_with v (Omega ∷ []) → ⊥) c.self.view_is
-    (λ over. c.in_default.ensures.over w.functors (free, omega (arith, over, same)))
+    (λ over. c.in-Ok.ensures.over w.functors (free, omega (arith, over, same)))
