@@ -1,5 +1,5 @@
 -- Contexts from their types, whose products are sealed.
-use Rattle.std.proofs.Common.{◌≡◌, ◌×◌, ℕ, zero, suc, ◌+◌, ◌<◌, ◌≤◌, inl, inr, List, [], ◌∷◌, ◌++◌, length, get_or, reverse, take, drop, refl, sym, ap, subst, ◌∙◌, arith}
+use Rattle.std.proofs.Common.{◌≡◌, ℕ, zero, suc, ◌+◌, ◌<◌, ◌≤◌, inl, inr, List, [], ◌∷◌, ◌++◌, length, get_or, reverse, take, drop, refl, sym, ap, subst, ◌∙◌, arith}
 use Rattle.std.proofs.lemmas.List.{take_more, take-append-drop, reverse-append}
 use Rattle.finite_lists.specs.Members.{In}
 use Rattle.finite_lists.proofs.Lists.{In-append_left, In-append_right}
@@ -102,3 +102,11 @@ module _ (types : List Ty) (k : ℕ) (T : Ty) (low : k < length types) (is : get
   pub binding_to : (w : World) (maps : List MapTy) (i : Interpreter) (context : Context) → Knows w maps i → IsScope w maps i (reverse (take k types)) context →
       ((P : Ty) → In (parts (product (reverse types))) P → Holds i.store.now P) → IsBinding w maps i (reverse (take k types)) context T
   binding_to w maps i context knows scope held = record { knows = knows; scope = scope; variable = held T type_to; whole = held (product (T ∷ reverse (take k types))) product_to }
+
+pub no_types : (types : List Ty) → length types ≡ 0 → types ≡ []
+no_types [] e = refl
+no_types (T ∷ types) e = absurd (omega (arith, e))
+
+-- with the product of no variables One is sealed
+pub one_held : (types : List Ty) (held : Ty → Type 0) → types ≡ [] → ((P : Ty) → In (parts (product (reverse types))) P → held P) → held One
+one_held types held none all = all One (subst (λ l. In (parts (product (reverse l))) One) (sym none) (part_itself One))

@@ -88,7 +88,7 @@ pub fn scope(
     requires held { (P : Ty) → In (parts (product (reverse types.now))) P → Holds interpreter.now.store.now P }
     ensures scope { IfOk result (λ context. (w : World) (maps : List MapTy) → Knows w maps interpreter.now → IsScope w maps interpreter.now (reverse types.now) context) }
 {
-    if types.is_empty() {
+    if types.len() == 0 {
         return no_variables(alloc, interpreter);
     }
     let mut context = one_variable(alloc, interpreter, &types[0])?;
