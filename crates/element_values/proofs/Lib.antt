@@ -1,0 +1,4 @@
+pub mod PlaceLists
+pub mod FormValues
+pub mod Parts
+pub mod Steps
