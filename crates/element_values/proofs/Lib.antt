@@ -2,3 +2,4 @@ pub mod PlaceLists
 pub mod FormValues
 pub mod Parts
 pub mod Steps
+pub mod TupleValues

@@ -31,7 +31,7 @@ use Rattle.term_tables.proofs.PairTables.{pair_stands, some, first_stands, secon
 use Rattle.element_values.specs.declared.elements.Elements.{Elements}
 use Rattle.element_values.specs.declared.places.Place.{Place}
 use Rattle.element_values.specs.declared.places.Image.{Image}
-use Rattle.element_values.specs.Known.{Knows, IsReadable, IsElement, HasValue}
+use Rattle.element_values.specs.Known.{Knows, IsReadable, IsElement, HasValue, count_of}
 use Rattle.element_values.specs.Places.{places_at, marked, imaged, entry_at, assign_at, IsPlace, IsImage}
 use Rattle.element_values.proofs.PlaceLists.{no_place, image_of, In_places_at, In_marked, In_imaged, places_are}
 use Rattle.element_values.proofs.FormValues.{subset_stands, function_stands}
@@ -75,8 +75,8 @@ module _ (e : Elements) where
   itself T h = h.held T (part_itself T)
 
   -- the numbers of elements are those of the store
-  pub count_of : (functors : List Presheaf) (T : Ty) (id c : ℕ) → Knows e functors → IsSealed store T id → c < k.objects → sizes_in store id c ≡ length (elements s functors T c)
-  count_of functors T id c h is low = size_of s functors store h T id c is low
+  pub sealed_count : (functors : List Presheaf) (T : Ty) (id c : ℕ) → Knows e functors → IsSealed store T id → c < k.objects → sizes_in store id c ≡ length (elements s functors T c)
+  sealed_count functors T id c h is low = size_of s functors store h T id c is low
 
   -- they do not depend on the functors
   pub element_under : (functors functors' : List Presheaf) (T : Ty) (c n : ℕ) → IsElement e functors T c n → Knows e functors' → IsElement e functors' T c n
@@ -88,7 +88,7 @@ module _ (e : Elements) where
         faithful = know;
         readable = h.readable;
         object = h.object;
-        within = omega (arith, low, count_of functors T there.0 c h.faithful sealed h.object, count_of functors' T there.0 c know sealed h.object);
+        within = omega (arith, low, sealed_count functors T there.0 c h.faithful sealed h.object, sealed_count functors' T there.0 c know sealed h.object);
       }
 
   -- an element at the domain of an arrow of the site's category
@@ -97,7 +97,7 @@ module _ (e : Elements) where
 
   module _ (laws : IsCategory e.site.now.category) where
     sizes : (functors : List Presheaf) (T : Ty) (id c : ℕ) → Knows e functors → IsSealed store T id → (f : ℕ) → IsInto k c f → sizes_in store id (dom k f) ≡ length (elements s functors T (dom k f))
-    sizes functors T id c h is f i = count_of functors T id (dom k f) h is (domain k laws i)
+    sizes functors T id c h is f i = sealed_count functors T id (dom k f) h is (domain k laws i)
 
     -- a subset by its row
     module _ (T : Ty) (c n whole part : ℕ) (is_whole : IsSealed e.store.now (Pow T) whole) (is_part : IsSealed e.store.now T part) where
@@ -208,8 +208,7 @@ module _ (e : Elements) where
       within = (second_stands s functors S T c n count _ is (stands functors h)).within;
     }
 
-    pub pair_value : (id : ℕ) (functors : List Presheaf) → IsElement e functors (Two S T) c n → IsSealed e.store.now T id → count ≡ sizes_in store id c →
+    pub pair_value : ((functors : List Presheaf) → Knows e functors → count ≡ count_of e functors T c) →
         (u v : Val) → HasValue e S c (n / count) u → HasValue e T c (n % count) v → HasValue e (Two S T) c n (Pair u v)
-    pair_value id functors h sealed is u v first second functors' know =
-        let count_is = is ∙ count_of functors' T id c know sealed h.object in
-        subst (λ m. Stands s functors' (Two S T) c m (Pair u v)) (div-add-mod' n count) (pair_stands s functors' S T c (n / count) (n % count) count u v count_is (first functors' know) (second functors' know))
+    pair_value is u v first second functors know =
+        subst (λ m. Stands s functors (Two S T) c m (Pair u v)) (div-add-mod' n count) (pair_stands s functors S T c (n / count) (n % count) count u v (is functors know) (first functors know) (second functors know))

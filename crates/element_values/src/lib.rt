@@ -3,7 +3,9 @@
 
 mod elements;
 mod places;
+mod tuples;
 mod values;
 
 pub use elements::Elements;
+pub use tuples::tuple_value;
 pub use values::element_value;

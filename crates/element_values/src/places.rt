@@ -8,7 +8,7 @@ ghost use Rattle.functor_store.specs.Faithful.{Holds, Stands};
 ghost use Rattle.sealed_types.specs.Sealed.{sizes_in};
 ghost use Rattle.fin_category.specs.ArrowSets.{arrows_in};
 ghost use Rattle.term_tables.specs.Parts.{IsSealed};
-ghost use Rattle.element_values.specs.Known.{Knows, IsElement, HasValue};
+ghost use Rattle.element_values.specs.Known.{Knows, IsElement, HasValue, count_of};
 ghost use Rattle.element_values.specs.Places.{places_over, places_at, marked, imaged, entry_at, assign_at, IsPlace, IsImage};
 
 use crate::Elements;
@@ -41,6 +41,17 @@ fn place_of(store: &FunctorStore, ty: &Ty) -> FunctorId
         Some(id) => id,
         None => unreachable!(),
     }
+}
+
+/// How many elements a sealed type has at c.
+pub(crate) fn count(elements: &Elements<'_>, ty: &Ty, c: u32) -> u32
+    requires known { (functors : List Presheaf) × Knows elements.now functors }
+    requires held { Holds elements.now.store.now ty.now }
+    requires object { c < elements.now.site.now.category.objects }
+    ensures { (functors : List Presheaf) → Knows elements.now functors → result ≡ count_of elements.now functors ty.now c }
+{
+    let store = elements.store;
+    store.count(place_of(store, ty), c)
 }
 
 // Puts the places with the arrow f last.
@@ -177,8 +188,7 @@ pub(crate) fn halves(
 {
     // The type of the first parts is a condition alone.
     let _ = left;
-    let store = elements.store;
-    let count = store.count(place_of(store, right.get()), c);
+    let count = count(elements, right.get(), c);
     (k / count, k % count)
 }
 
