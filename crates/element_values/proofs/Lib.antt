@@ -1,0 +1,5 @@
+pub mod PlaceLists
+pub mod FormValues
+pub mod Parts
+pub mod Steps
+pub mod TupleValues

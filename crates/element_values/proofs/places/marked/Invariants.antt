@@ -1,0 +1,7 @@
+use Rattle.std.proofs.Common.{◌≡◌, ◌++◌, drop}
+use Rattle.element_values.specs.Places.{marked}
+use Rattle.element_values.proofs.places.marked.Given as goal
+
+-- what is left gives the whole
+abbrev pub invariant-each : goal.invariant-each
+invariant-each l = l.kept ++ marked (drop l.i l.places) (drop l.i l.row) ≡ marked l.places l.row

@@ -1,0 +1,11 @@
+//! Elements of sealed types and tuples of contexts, as values, from their numbers.
+#![tactic(auto)]
+
+mod elements;
+mod places;
+mod tuples;
+mod values;
+
+pub use elements::Elements;
+pub use tuples::tuple_value;
+pub use values::element_value;
