@@ -10,7 +10,7 @@ use Rattle.topos_model.specs.declared.answer.Answer.{Answer}
 use Rattle.topos_model.specs.declared.answer.Answer.TheVariants.{Quiet, Shown}
 use Rattle.topos_model.specs.declared.answer.End.TheVariants.{Whole, Refused}
 use Rattle.topos_model.specs.declared.answer.Tuple.{Tuple}
-use Rattle.topos_model.specs.declared.fault.Fault.TheVariants.{NotBuilt, CompositeEnds, NotAssociative, NotTotal, NotFunctorial}
+use Rattle.topos_model.specs.declared.fault.Fault.TheVariants.{NotBuilt, CompositeEnds, NotAssociative, NotStable, NotTotal, NotFunctorial, Expected}
 use Rattle.topos_model.specs.declared.stmt.Stmt.{Stmt}
 use Rattle.topos_model.specs.declared.stmt.Stmt.TheVariants.{Presheaf, Empty}
 use Rattle.topos_model.specs.declared.doc.Doc.{Doc}
@@ -19,14 +19,15 @@ use Rattle.topos_model.specs.types.Values.{number_of, first_of, second_of, arrow
 use Rattle.topos_report.specs.Names.{name_or_number, arrow_name, element_name}
 use Rattle.topos_report.specs.Values.{ends_of, pair_text, sieve_text, entry_text, subset_text, assign_text, function_text, value_text, typed_text, tuple_text}
 use Rattle.topos_report.specs.Stages.{tuples_line, tuples_line_at, tuples_list}
-use Rattle.topos_report.specs.Refusals.{functor_of, number_prefix, declared_functor, element_of, element_along_text, tested_of, tested_at, refusal_line}
+use Rattle.topos_report.specs.Refusals.{functor_of, number_prefix, topology_prefix, topology_text, declared_functor, element_of, element_along_text, tested_of, tested_at, refusal_line}
+use Rattle.topos_report.specs.TypeTexts.{type_text}
 use Rattle.topos_report.specs.Report.{answer_lines, lines_from, cells_line, end_line, report}
 use Rattle.topos_report.specs.EmptyDocument.{empty_document}
 use Rattle.topos_report.specs.AnswerLines.{heading}
 
 -- what the examples compute with
 opened : Unit {0}
-unfolding digits number_of first_of second_of arrows_of entries_of assigns_of out-Val hidden-the_row-Ty-0 hidden-the_row-Val-0 hidden-the_row-Entry-1 hidden-the_row-Assign-2 shown-the_row-Val-0 shown-the_row-Entry-1 shown-the_row-Assign-2 Carrier.hidden Carrier.shown Carrier.out all_ends name_or_number arrow_name element_name ends_of pair_text sieve_text entry_text subset_text assign_text function_text value_text typed_text tuple_text tuples_line tuples_line_at tuples_list functor_of number_prefix declared_functor element_of element_along_text tested_of tested_at refusal_line heading answer_lines lines_from cells_line end_line report empty_document
+unfolding digits number_of first_of second_of arrows_of entries_of assigns_of out-Val hidden-the_row-Ty-0 hidden-the_row-Val-0 hidden-the_row-Entry-1 hidden-the_row-Assign-2 shown-the_row-Val-0 shown-the_row-Entry-1 shown-the_row-Assign-2 Carrier.hidden Carrier.shown Carrier.out all_ends name_or_number arrow_name element_name ends_of pair_text sieve_text entry_text subset_text assign_text function_text value_text typed_text tuple_text tuples_line tuples_line_at tuples_list type_text functor_of number_prefix topology_prefix topology_text declared_functor element_of element_along_text tested_of tested_at refusal_line heading answer_lines lines_from cells_line end_line report empty_document
 opened = tt
 
 tuple : List Val → Tuple
@@ -105,6 +106,14 @@ swap_refused = refl
 site_refused : report graphs [] (Refused None (NotAssociative 2 2 3)) ≡ codes "refused 33 not associative: s, s, t\n"
 unfolding opened graphs
 site_refused = refl
+
+cover_refused : report graphs [] (Refused None (NotStable 0 1 (2 ∷ []) 3)) ≡ codes "refused 40 not stable: E, {s}, t\n"
+unfolding opened graphs
+cover_refused = refl
+
+type_refused : report monoid [] (Refused (Some 4) (Expected (Two (Base 0) (Pow Omega)) (Fun (Base 1) (Base 0)))) ≡ codes "4 refused 60 expected: (X * Pow Omega), found: (Y -> X)\n"
+unfolding opened monoid
+type_refused = refl
 
 partial_refused : report monoid [] (Refused (Some 4) (NotTotal 1 1)) ≡ codes "4 refused 51 not total: r, b\n"
 unfolding opened monoid

@@ -25,12 +25,12 @@ use Rattle.topos_model.specs.certificates.CertificateNodes.{side_of, arrow_of, e
 use Rattle.topos_report.specs.Names.{name_or_number, arrow_name, element_name, arrow_in, place_text, second_naming}
 use Rattle.topos_report.specs.Values.{ends_of, pair_text, sieve_text, entry_text, subset_text, assign_text, function_text, value_text, typed_text, tuple_text}
 use Rattle.topos_report.specs.Stages.{tuples_line, tuples_line_at, tuples_list}
-use Rattle.topos_report.specs.Refusals.{number_prefix, kind_text, token_text}
+use Rattle.topos_report.specs.Refusals.{number_prefix, kind_text, token_text, topology_prefix, topology_text}
 use Rattle.topos_report.specs.TypeTexts.{type_text}
 use Rattle.topos_report.specs.Statements.{word_of, made_maps, tested_maps, statement_at, made_name, naming_of, elements_of}
 use Rattle.topos_report.specs.Tables.{arrow_text, numbers_line, along_line, shape_lines, pair_entry, map_line, map_lines}
 use Rattle.topos_report.specs.CertificateLines.{verdict_text, side_text, extra_text, child_text, node_line, node_lines}
-use Rattle.topos_report.specs.FaultTexts.{topology_prefix, subject_of, subject_at, topology_text, element_along_text, sent_text, fault_text, fault_line}
+use Rattle.topos_report.specs.FaultTexts.{subject_of, subject_at, element_along_text, sent_text, fault_text, fault_line}
 use Rattle.topos_report.specs.AnswerLines.{heading, why_formula, unforced_line, verdict_lines, classified_line, classified_at, member_text, failing_family, made_heading, built_lines, listed_map_lines, unit_line, from_names, to_names, unit_lines, kan_lines, cover_line, why_heading, answer_text}
 use Rattle.topos_report.specs.Report.{cells_line}
 use Rattle.topos_report.specs.WholeReport.{texts_from, ending, whole_report}

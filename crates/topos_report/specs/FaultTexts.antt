@@ -10,12 +10,7 @@ use Rattle.topos_report.specs.Names.{Naming, object_in, arrow_in, place_text, na
 use Rattle.topos_report.specs.Values.{sieve_text}
 use Rattle.topos_report.specs.TypeTexts.{type_text}
 use Rattle.topos_report.specs.Statements.{tested_maps, statement_at, naming_of, elements_of}
-use Rattle.topos_report.specs.Refusals.{refused, kind_text, token_text}
-
--- the name of a topology that has one, and a comma
-unfoldable pub topology_prefix : Option (List ℕ) → List ℕ
-topology_prefix None = []
-topology_prefix (Some name) = name ++ codes ", "
+use Rattle.topos_report.specs.Refusals.{refused, kind_text, token_text, topology_text}
 
 -- what a fault of the text or the site, or of a statement, speaks of: a category, elements and maps
 pub record Subject : Type 0 where
@@ -32,10 +27,6 @@ module _ (doc : Doc) where
   unfoldable pub subject_at : Option ℕ → Subject
   subject_at None = subject_of None
   subject_at (Some k) = subject_of (statement_at doc k)
-
-  -- the topology that a fault is of
-  unfoldable pub topology_text : ℕ → List ℕ
-  topology_text j = topology_prefix (get_or doc.tops j (record { name = None; dense = false; covers = [] })).name
 
   module _ (s : Subject) where
     -- arrows, with commas between them
@@ -69,9 +60,9 @@ module _ (doc : Doc) where
     fault_text (CompositeEnds g f h) = codes "32 composite ends: " ++ arrows_text (g ∷ f ∷ h ∷ [])
     fault_text (NotAssociative h g f) = codes "33 not associative: " ++ arrows_text (h ∷ g ∷ f ∷ [])
     fault_text (NotStable under c S f) =
-        codes "40 not stable: " ++ topology_text under ++ object_in s.names c ++ codes ", " ++ sieve_text doc S ++ codes ", " ++ arrow_in s.names f
+        codes "40 not stable: " ++ topology_text doc under ++ object_in s.names c ++ codes ", " ++ sieve_text doc S ++ codes ", " ++ arrow_in s.names f
     fault_text (NotTransitive under c S R) =
-        codes "41 not transitive: " ++ topology_text under ++ object_in s.names c ++ codes ", " ++ sieve_text doc S ++ codes ", " ++ sieve_text doc R
+        codes "41 not transitive: " ++ topology_text doc under ++ object_in s.names c ++ codes ", " ++ sieve_text doc S ++ codes ", " ++ sieve_text doc R
     fault_text (RestrictionMissing f) = codes "50 restriction missing: " ++ arrow_in s.names f
     fault_text (NotTotal f x) = codes "51 not total: " ++ arrow_in s.names f ++ codes ", " ++ element_along_text f x
     fault_text (NotFunctorial g f x) = codes "52 not functorial: " ++ arrows_text (g ∷ f ∷ []) ++ codes ", " ++ element_along_text g x

@@ -2,13 +2,13 @@
 use Rattle.std.specs.Prelude.{ℕ, ◌+◌, List, [], ◌∷◌, ◌++◌, length, codes, decimal, flat_map}
 use Rattle.std.specs.List.{range_with_len}
 use Rattle.topos_model.specs.declared.answer.Answer.{Answer}
-use Rattle.topos_model.specs.declared.answer.Answer.TheVariants.{Quiet, Built, Shown, Maps}
+use Rattle.topos_model.specs.declared.answer.Answer.TheVariants.{Quiet, Built, Shown, Classified, Verdict, Sheaf, NotSheaf, Maps}
 use Rattle.topos_model.specs.declared.answer.End.{End}
 use Rattle.topos_model.specs.declared.answer.End.TheVariants.{Whole, Refused, Budget}
 use Rattle.topos_model.specs.declared.stmt.Stmt.{Stmt}
 use Rattle.topos_model.specs.declared.doc.Doc.{Doc}
 use Rattle.topos_report.specs.Stages.{tuples_list}
-use Rattle.topos_report.specs.AnswerLines.{heading, built_lines, listed_map_lines}
+use Rattle.topos_report.specs.AnswerLines.{heading, verdict_lines, classified_at, failing_family, built_lines, listed_map_lines}
 use Rattle.topos_report.specs.Refusals.{refusal_line}
 
 -- how many cells there are
@@ -21,6 +21,10 @@ module _ (doc : Doc) where
   answer_lines k stmt Quiet = []
   answer_lines k stmt (Built shape maps) = built_lines doc k stmt shape maps
   answer_lines k stmt (Shown ctx stages) = decimal k ++ codes " show\n" ++ tuples_list doc ctx.types stages
+  answer_lines k stmt (Classified ctx stages) = heading k (codes "classify") ++ flat_map (classified_at doc ctx.types stages) (range_with_len 0 doc.cat.objects)
+  answer_lines k stmt (Verdict ctx stages) = verdict_lines doc k ctx.types stages
+  answer_lines k stmt Sheaf = heading k (codes "sheaf")
+  answer_lines k stmt (NotSheaf functor c cover family found) = heading k (codes "not a sheaf") ++ failing_family doc functor c cover family found
   answer_lines k stmt (Maps maps) = heading k (codes "hom " ++ decimal (length maps)) ++ flat_map (listed_map_lines doc maps) (range_with_len 0 (length maps))
   answer_lines k stmt _ = []
 

@@ -4,9 +4,11 @@ ghost use Rattle.topos_report.specs.AnswerLines.{heading};
 ghost use Rattle.topos_report.specs.Report.{answer_lines, lines_from, cells_line, end_line};
 
 use crate::bytes::{push_bytes, push_number};
+use crate::families::{push_failing_family, push_not_sheaf, push_sheaf};
 use crate::refusals::push_refusal;
 use crate::stages::push_tuples_list;
 use crate::tables::{push_built, push_hom};
+use crate::verdicts::{push_classified, push_verdict};
 use topos_model::{Answer, Doc, End, NoMemory, Stmt};
 
 /// The lines of the answer to a statement, its number being k. Those that no statement gives yet have none.
@@ -29,6 +31,31 @@ fn push_answer(
             push_number(out, k)?;
             push_bytes(out, b" show\n")?;
             push_tuples_list(out, doc, ctx.types.as_slice(), stages.as_slice())
+        }
+        Answer::Classified { ctx, stages } => {
+            push_classified(out, doc, k, ctx.types.as_slice(), stages.as_slice())
+        }
+        Answer::Verdict { ctx, unforced } => {
+            push_verdict(out, doc, k, ctx.types.as_slice(), unforced.as_slice())
+        }
+        Answer::Sheaf => push_sheaf(out, k),
+        Answer::NotSheaf {
+            functor,
+            at,
+            cover,
+            family,
+            found,
+        } => {
+            push_not_sheaf(out, k)?;
+            push_failing_family(
+                out,
+                doc,
+                *functor,
+                *at,
+                cover.as_slice(),
+                family.as_slice(),
+                *found,
+            )
         }
         _ => Ok(()),
     }

@@ -6,6 +6,9 @@ ghost use Rattle.topos_report.specs.Report.{report};
 
 mod answers;
 mod bytes;
+mod cover_refusals;
+mod families;
+mod formula_refusals;
 mod names;
 mod parts;
 mod refusals;
@@ -13,7 +16,9 @@ mod stages;
 mod statements;
 mod tables;
 mod text_refusals;
+mod types;
 mod values;
+mod verdicts;
 
 use crate::answers::{push_answers, push_end};
 use std::alloc::Global;

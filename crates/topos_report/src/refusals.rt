@@ -6,6 +6,11 @@ ghost use Rattle.topos_report.specs.Names.{map_name};
 ghost use Rattle.topos_report.specs.Refusals.{functor_of, tested_of, tested_at, number_prefix, declared_functor, element_of, element_along_text, refusal_line};
 
 use crate::bytes::{push_bytes, push_number};
+use crate::cover_refusals::{push_not_stable, push_not_transitive};
+use crate::formula_refusals::{
+    push_expected, push_not_a_function, push_not_a_pair, push_not_a_power, push_not_a_sheaf,
+    push_type_too_large,
+};
 use crate::names::{ends, push_arrow, push_element, push_object};
 use crate::statements::push_tested;
 use crate::tables::push_place;
@@ -319,12 +324,30 @@ pub fn push_refusal(
         Fault::CompositeTwice { g, f } => push_composite_twice(out, doc, at, *g, *f),
         Fault::CompositeEnds { g, f, h } => push_composite_ends(out, doc, at, *g, *f, *h),
         Fault::NotAssociative { h, g, f } => push_not_associative(out, doc, at, *h, *g, *f),
+        Fault::NotStable {
+            under,
+            at: c,
+            cover,
+            f,
+        } => push_not_stable(out, doc, at, *under, *c, cover.as_slice(), *f),
+        Fault::NotTransitive {
+            under,
+            at: c,
+            cover,
+            other,
+        } => { push_not_transitive(out, doc, at, *under, *c, cover.as_slice(), other.as_slice()) }
         Fault::RestrictionMissing { f } => push_restriction_missing(out, doc, at, *f),
         Fault::NotTotal { f, x } => push_not_total(out, doc, at, *f, *x),
         Fault::NotFunctorial { g, f, x } => push_not_functorial(out, doc, at, *g, *f, *x),
         Fault::MapNotTotal { at: c, x } => push_map_not_total(out, doc, at, *c, *x),
         Fault::NotNatural { f, x } => push_not_natural(out, doc, at, *f, *x),
         Fault::NoElement { at: c, k } => push_no_element(out, doc, at, *c, *k),
+        Fault::Expected { needed, found } => push_expected(out, doc, at, needed, found),
+        Fault::TypeTooLarge { nodes } => push_type_too_large(out, doc, at, *nodes),
+        Fault::NotASheaf { functor } => push_not_a_sheaf(out, doc, at, *functor),
+        Fault::NotAFunction { found } => push_not_a_function(out, doc, at, found),
+        Fault::NotAPower { found } => push_not_a_power(out, doc, at, found),
+        Fault::NotAPair { found } => push_not_a_pair(out, doc, at, found),
         Fault::NotParallel => push_not_parallel(out, doc, at),
         _ => Ok(()),
     }

@@ -8,7 +8,7 @@ use crate::values::push_tuple;
 use topos_model::{Doc, NoMemory, Row, Tuple, Ty};
 
 /// The tuples at place i, and none where there is no such place.
-fn tuples_at(stages: &[Row<Tuple>], i: u32) -> &[Tuple]
+pub fn tuples_at(stages: &[Row<Tuple>], i: u32) -> &[Tuple]
     ensures { result.now ≡ get_or stages.now i [] }
 {
     match stages.get(i as usize) {
@@ -17,8 +17,9 @@ fn tuples_at(stages: &[Row<Tuple>], i: u32) -> &[Tuple]
     }
 }
 
+/// The tuples of an object.
 #[tactic(auto, unfolding(crate::specs::Stages::tuples_line))]
-fn push_tuples_line(
+pub fn push_tuples_line(
     out: &mut Vec<u8>,
     doc: &Doc,
     types: &[Ty],

@@ -32,7 +32,7 @@ pub fn push_word(out: &mut Vec<u8>, stmt: &Stmt) -> Result<(), NoMemory>
 }
 
 /// The name of a functor, and nothing where there is none of this number.
-fn push_functor_name(out: &mut Vec<u8>, doc: &Doc, functor: u32) -> Result<(), NoMemory>
+pub fn push_functor_name(out: &mut Vec<u8>, doc: &Doc, functor: u32) -> Result<(), NoMemory>
     ensures { OnOk result (out.new.items ≡ out.old.items ++ functor_name doc.now functor) }
 {
     match doc.functors.as_slice().get(functor as usize) {

@@ -43,7 +43,7 @@ fn push_limit(out: &mut Vec<u8>, kind: Kind, limit: u32) -> Result<(), NoMemory>
 }
 
 /// The line of a refusal whose text ends with a number.
-fn push_counted(out: &mut Vec<u8>, at: Option<u32>, text: &[u8], n: u32) -> Result<(), NoMemory>
+pub fn push_counted(out: &mut Vec<u8>, at: Option<u32>, text: &[u8], n: u32) -> Result<(), NoMemory>
     ensures { OnOk result (out.new.items ≡ out.old.items ++ refused at (text.now ++ decimal n)) }
 {
     push_refused(out, at, text)?;

@@ -22,7 +22,7 @@ pub fn push_arrows(out: &mut Vec<u8>, doc: &Doc, arrows: &[u32]) -> Result<(), N
 
 /// An element of `Omega`, from its arrows.
 #[tactic(auto, unfolding(crate::specs::Values::sieve_text))]
-fn push_sieve(out: &mut Vec<u8>, doc: &Doc, arrows: &[u32]) -> Result<(), NoMemory>
+pub fn push_sieve(out: &mut Vec<u8>, doc: &Doc, arrows: &[u32]) -> Result<(), NoMemory>
     ensures { OnOk result (out.new.items ≡ out.old.items ++ sieve_text doc.now arrows.now) }
 {
     push_bytes(out, b"{")?;

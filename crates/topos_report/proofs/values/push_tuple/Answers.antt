@@ -1,7 +1,8 @@
 use Rattle.std.proofs.Common.{◌≡◌, arith}
 use Rattle.std.proofs.lemmas.Grind.{common_steps}
 use Rattle.topos_report.specs.Values.{tuple_text}
-use Rattle.topos_report.proofs.TypedValues.{typed_text-more, take-zip}
+use Rattle.topos_report.proofs.ZippedLists.{take-zip}
+use Rattle.topos_report.proofs.TypedValues.{typed_text-more}
 use Rattle.topos_report.proofs.values.push_tuple.Goals as goal
 
 pub loop-i-preserved : goal.loop-i-preserved

@@ -1,0 +1,4 @@
+pub mod RangeEquations
+pub mod StableTerms
+pub mod NamedTypes
+pub mod StableMeanings
