@@ -102,9 +102,10 @@ fn marked(alloc: Global, places: &[Place], row: &[u32]) -> Result<Row<Place>, No
     ensures { IfOk result (λ kept. kept ≡ marked places.now row.now) }
 {
     let mut kept = Row::new(alloc);
-    'each: for i in 0..places.len() {
-        if row[i] == 1 {
-            kept.push(places[i])?;
+    for (i, place) in places.iter().enumerate() {
+        let is_member = row[i] == 1;
+        if is_member {
+            kept.push(*place)?;
         }
     }
     Ok(kept)
@@ -116,10 +117,10 @@ fn imaged(alloc: Global, places: &[Place], row: &[u32]) -> Result<Row<Image>, No
     ensures { IfOk result (λ images. images ≡ imaged places.now row.now) }
 {
     let mut images = Row::new(alloc);
-    'each: for i in 0..places.len() {
+    for (i, place) in places.iter().enumerate() {
         images.push(Image {
-            arrow: places[i].arrow,
-            element: places[i].element,
+            arrow: place.arrow,
+            element: place.element,
             value: row[i],
         })?;
     }

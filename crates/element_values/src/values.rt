@@ -88,9 +88,9 @@ fn subset(
 {
     let cat = elements.site.cat();
     let mut entries = Row::new(alloc);
-    for i in 0..places.len() {
-        let arrow = places[i].arrow;
-        let val = part(alloc, elements, of, cat.dom(arrow), places[i].element)?;
+    for place in places {
+        let arrow = place.arrow;
+        let val = part(alloc, elements, of, cat.dom(arrow), place.element)?;
         entries.push(Entry { arrow, val })?;
     }
     Ok(Val::Sub(entries))
@@ -110,10 +110,11 @@ fn function(
 {
     let cat = elements.site.cat();
     let mut assigns = Row::new(alloc);
-    for i in 0..images.len() {
-        let arrow = images[i].arrow;
-        let val = part(alloc, elements, from, cat.dom(arrow), images[i].element)?;
-        let to = part(alloc, elements, to, cat.dom(arrow), images[i].value)?;
+    for image in images {
+        let arrow = image.arrow;
+        let source = cat.dom(arrow);
+        let val = part(alloc, elements, from, source, image.element)?;
+        let to = part(alloc, elements, to, source, image.value)?;
         assigns.push(Assign { arrow, val, to })?;
     }
     Ok(Val::Fn(assigns))

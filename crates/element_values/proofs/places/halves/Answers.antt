@@ -1,4 +1,4 @@
-use Rattle.std.proofs.Common.{◌≡◌, length, sym, subst, ap, ◌∙◌}
+use Rattle.std.proofs.Common.{sym, subst, ap, ◌∙◌}
 use Rattle.functor_store.specs.Faithful.{Holds}
 use Rattle.element_values.specs.Known.{count_of}
 use Rattle.element_values.proofs.Parts.{itself, readable_right, count_some, first_half, second_half, pair_value}
