@@ -56,7 +56,7 @@ pair-returns t c =
       value =
           subst (λ u. HasValue e T c.args.c c.args.k (Pair u c.in_ok-new-2.field-0)) (sym c.in_ok-new.ensures)
           (subst (λ v. HasValue e T c.args.c c.args.k (Pair c.in_ok-first.first v)) (sym c.in_ok-new-2.ensures)
-          (c.halves-i.ensures.value c.in_ok-first.first c.in_ok-second.second c.in_ok-first.ensures.value c.in_ok-second.ensures.value));
+          (c.part_numbers-i.ensures.value c.in_ok-first.first c.in_ok-second.second c.in_ok-first.ensures.value c.in_ok-second.ensures.value));
     }
 
 pub subset-dom-requires : goal.subset-dom-requires
