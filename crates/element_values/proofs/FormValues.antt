@@ -1,17 +1,15 @@
 -- The elements of each form of types, by their numbers.
-use Rattle.std.proofs.Common.{◌≡◌, ℕ, ◌<◌, inl, inr, List, [], ◌∷◌, ◌++◌, length, get_or, map, filter, cond, refl, sym, ap, subst, ◌∙◌, arith}
-use Rattle.std.specs.List.{range_with_len}
+use Rattle.std.proofs.Common.{◌≡◌, ℕ, ◌<◌, List, [], ◌∷◌, length, get_or, map, filter, cond, sym, ap, ◌∙◌, arith}
 use Rattle.std.proofs.lemmas.List.{length-map, get_or-map}
 use Rattle.std.proofs.lemmas.List.FromFn.{length-map-range_with_len, get_or-map-range_with_len}
-use Rattle.finite_lists.specs.Members.{In}
-use Rattle.finite_lists.proofs.Lists.{In_at, sublist_kept}
-use Rattle.topos_model.specs.declared.ty.Ty.{Ty, Base, One, Omega, Two, Pow, Fun}
-use Rattle.topos_model.specs.declared.value.Val.{Val, El, Star, Sv, Sub, Fn}
+use Rattle.finite_lists.proofs.Lists.{sublist_kept}
+use Rattle.topos_model.specs.declared.ty.Ty.{Ty, Base, One, Omega, Pow, Fun}
+use Rattle.topos_model.specs.declared.value.Val.{El, Star, Sv, Sub, Fn}
 use Rattle.topos_model.specs.declared.value.Entry.{Entry}
 use Rattle.topos_model.specs.categories.Category.{dom}
 use Rattle.topos_model.specs.topologies.Cover.{Site}
 use Rattle.topos_model.specs.Laws.{IsInto}
-use Rattle.topos_model.specs.types.Types.{Presheaf, functor, elements, restr, places, in_entries, at_place, base_elements, omega_elements}
+use Rattle.topos_model.specs.types.Types.{Presheaf, functor, elements, places, in_entries, at_place, base_elements, omega_elements}
 use Rattle.topos_model.specs.types.Values.{entries_of, assigns_of}
 use Rattle.topos_model.proofs.TypeEquations.{elements-Base, elements-One, elements-Omega}
 use Rattle.topos_model.proofs.ValueEquations.{entries_of-Sub, assigns_of-Fn}
@@ -26,7 +24,6 @@ use Rattle.type_laws.proofs.Presheaves.{Distinct-elements}
 use Rattle.type_laws.proofs.Readings.{elements_Pow, elements_Fun}
 use Rattle.type_laws.proofs.Tables.{at_entry, tabulate, assignment_table}
 use Rattle.type_rows.specs.TypeRows.{value_at}
-use Rattle.element_values.specs.declared.places.Place.{Place}
 use Rattle.element_values.specs.Places.{places_at, marked, imaged, entry_at, assign_at}
 use Rattle.element_values.proofs.PlaceLists.{no_place, places_are, kept, valued}
 

@@ -1,5 +1,5 @@
 -- What is known of an element is known of its parts.
-use Rattle.std.proofs.Common.{◌≡◌, ℕ, ◌<◌, ◌*◌, ◌+◌, ◌/◌, ◌%◌, inl, inr, List, [], ◌∷◌, ◌++◌, length, get_or, map, cond, Some, None, MatchOption, refl, sym, ap, subst, ◌∙◌, arith}
+use Rattle.std.proofs.Common.{◌≡◌, ℕ, ◌<◌, ◌/◌, ◌%◌, inr, List, length, get_or, map, cond, Some, None, MatchOption, refl, sym, ap, subst, ◌∙◌, arith}
 use denote.Bor.{Bor}
 use Rattle.std.proofs.lemmas.List.{length-map, get_or-map}
 use Rattle.std.proofs.lemmas.Nat.{div-add-mod'}
@@ -15,8 +15,8 @@ use Rattle.topos_model.specs.types.Types.{Presheaf, elements, places, in_entries
 use Rattle.topos_model.specs.types.Values.{entries_of}
 use Rattle.topos_model.specs.statements.Needs.{parts}
 use Rattle.topos_model.proofs.NeedsEquations.{parts-Two, parts-Pow, parts-Fun}
-use Rattle.functor_store.specs.Store.{Store, Functor, functor_at, size_at, element_at}
-use Rattle.functor_store.specs.Faithful.{Holds, Stands, AreNumbers, HasElements, place_at as store_place}
+use Rattle.functor_store.specs.Store.{Store, Functor, functor_at, element_at}
+use Rattle.functor_store.specs.Faithful.{Holds, Stands, AreNumbers, place_at as store_place}
 use Rattle.omega_object.specs.declared.omega.Omega.{Omega as OmegaTables}
 use Rattle.omega_object.specs.Tables.{IsOmegaOn}
 use Rattle.sieve_table.proofs.SieveMembers.{domain}
@@ -33,7 +33,7 @@ use Rattle.element_values.specs.declared.places.Place.{Place}
 use Rattle.element_values.specs.declared.places.Image.{Image}
 use Rattle.element_values.specs.Known.{Knows, IsReadable, IsElement, HasValue, count_of}
 use Rattle.element_values.specs.Places.{places_at, marked, imaged, entry_at, assign_at, IsPlace, IsImage}
-use Rattle.element_values.proofs.PlaceLists.{no_place, image_of, In_places_at, In_marked, In_imaged, places_are}
+use Rattle.element_values.proofs.PlaceLists.{no_place, In_places_at, In_marked, In_imaged, places_are}
 use Rattle.element_values.proofs.FormValues.{subset_stands, function_stands}
 
 module _ (e : Elements) where
@@ -126,12 +126,15 @@ module _ (e : Elements) where
           let (arrow, low) = In_places_at k (sizes_in store part) c p (In_marked ps row p i) in
           record {
             arrow = arrow.0;
-            element = (functors, record {
-              faithful = h.faithful;
-              readable = readable_of T h.readable;
-              object = domain k laws arrow;
-              within = omega (arith, low, sizes functors T part c h.faithful is_part p.arrow arrow);
-            });
+            element = (
+              functors,
+              record {
+                faithful = h.faithful;
+                readable = readable_of T h.readable;
+                object = domain k laws arrow;
+                within = omega (arith, low, sizes functors T part c h.faithful is_part p.arrow arrow);
+              },
+            );
           }
 
       pub subset_value : (functors functors' : List Presheaf) → IsElement e functors (Pow T) c n → Knows e functors' → Stands s functors' (Pow T) c n (Sub (map (entry_at s functors' T) (marked (places_at k (sizes_in store part) c) (element_at (functor_at store.sealed whole) c n))))
@@ -170,12 +173,15 @@ module _ (e : Elements) where
           subst (λ (x : Entry). get_or values_row i 0 < length (elements s functors T (dom k x.arrow))) there ((numbers functors h).values i (omega (arith, low, long))).within in
           subst (IsImage e S T) is (record {
             arrow = arrow.0;
-            element = (functors, record {
-              faithful = h.faithful;
-              readable = readable_from S T h.readable;
-              object = domain k laws arrow;
-              within = omega (arith, below, sizes functors S part c h.faithful is_part p.arrow arrow);
-            });
+            element = (
+              functors,
+              record {
+                faithful = h.faithful;
+                readable = readable_from S T h.readable;
+                object = domain k laws arrow;
+                within = omega (arith, below, sizes functors S part c h.faithful is_part p.arrow arrow);
+              },
+            );
             value = (functors, record { faithful = h.faithful; readable = readable_to S T h.readable; object = domain k laws arrow; within = value });
           })
 

@@ -1,18 +1,16 @@
 -- Places by numbers, and the entries and assignments there.
-use Rattle.std.proofs.Common.{◌≡◌, ℕ, zero, suc, ◌+◌, ◌<◌, Bool, true, false, cond, eqb, inl, inr, List, [], ◌∷◌, length, get_or, map, filter, refl, sym, ap, subst, ◌∙◌, arith}
-use Rattle.std.specs.List.{flat_map, range_with_len}
-use Rattle.std.proofs.lemmas.List.{length-map}
+use Rattle.std.proofs.Common.{◌≡◌, ℕ, zero, suc, ◌<◌, Bool, true, false, cond, eqb, inl, inr, List, [], ◌∷◌, length, get_or, map, filter, refl, sym, ap, subst, ◌∙◌, arith}
+use Rattle.std.specs.List.{range_with_len}
 use Rattle.std.proofs.lemmas.Simd.{map-map}
 use Rattle.finite_lists.specs.Members.{In}
 use Rattle.finite_lists.proofs.Lists.{In-map_from, In-flat_map_from}
 use Rattle.finite_lists.proofs.DistinctLists.{In-range_from}
 use Rattle.topos_model.specs.declared.ty.Ty.{Ty}
-use Rattle.topos_model.specs.declared.value.Val.{Val, Star}
+use Rattle.topos_model.specs.declared.value.Val.{Val}
 use Rattle.topos_model.specs.declared.value.Entry.{Entry}
-use Rattle.topos_model.specs.declared.value.Assign.{Assign}
 use Rattle.topos_model.specs.categories.Category.{Category, into, dom}
 use Rattle.topos_model.specs.topologies.Cover.{Site}
-use Rattle.topos_model.specs.Laws.{IsCategory, IsInto}
+use Rattle.topos_model.specs.Laws.{IsInto}
 use Rattle.topos_model.specs.types.Types.{Presheaf, elements, places}
 use Rattle.topos_model.proofs.ArrowsInto.{In-into_from}
 use Rattle.type_laws.proofs.Places.{entry}

@@ -1,5 +1,5 @@
 -- The tuples of a context, by their numbers.
-use Rattle.std.proofs.Common.{◌≡◌, ℕ, zero, suc, ◌+◌, ◌*◌, ◌/◌, ◌%◌, ◌<◌, inl, inr, List, [], ◌∷◌, ◌++◌, length, get_or, map, reverse, refl, sym, ap, subst, ◌∙◌, arith}
+use Rattle.std.proofs.Common.{◌≡◌, ℕ, zero, suc, ◌*◌, ◌/◌, ◌%◌, ◌<◌, inl, inr, List, [], ◌∷◌, ◌++◌, length, get_or, map, reverse, refl, sym, ap, subst, ◌∙◌, arith}
 use Rattle.std.proofs.Math.Nat.{div-lt_iff_lt-mul}
 use Rattle.std.proofs.lemmas.Nat.{div-add-mod'}
 use Rattle.std.proofs.lemmas.List.{length-map, get_or-map, reverse-append, map-append, append_assoc}
@@ -9,7 +9,6 @@ use Rattle.topos_model.specs.declared.value.Val.{Val, Star}
 use Rattle.topos_model.specs.topologies.Cover.{Site}
 use Rattle.topos_model.specs.types.Types.{elements}
 use Rattle.topos_model.specs.formulas.Forcing.{World, Assigned, values, tuples}
-use Rattle.functor_store.specs.Faithful.{Stands}
 use Rattle.type_rows.proofs.FlatRows.{length-joined, joined_at}
 use Rattle.product_objects.proofs.ProductElements.{pair_of}
 use Rattle.term_tables.specs.Parts.{IsSealed}

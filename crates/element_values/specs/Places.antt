@@ -1,5 +1,5 @@
 -- The places of subsets and functions, by numbers.
-use Rattle.std.specs.Prelude.{◌≡◌, ℕ, ◌<◌, cond, eqb, List, [], ◌∷◌, length, map, flat_map}
+use Rattle.std.specs.Prelude.{ℕ, ◌<◌, cond, eqb, List, [], ◌∷◌, length, map, flat_map}
 use Rattle.std.specs.List.{range_with_len}
 use Rattle.topos_model.specs.declared.ty.Ty.{Ty}
 use Rattle.topos_model.specs.declared.value.Entry.{Entry}

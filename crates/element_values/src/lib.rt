@@ -2,7 +2,10 @@
 #![tactic(auto)]
 
 mod elements;
+mod pairs;
 mod places;
+mod sealed;
+mod truth_values;
 mod tuples;
 mod values;
 

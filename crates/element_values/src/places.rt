@@ -1,21 +1,20 @@
-// The places of a subset and of a function, and the parts of a pair, by numbers.
+// The places of a subset and of a function, by numbers.
 ghost use Rattle.std.specs.Prelude.{◌≡◌, ◌++◌, ◌<◌, List, length, map, IfOk, OnOk};
-ghost use Rattle.topos_model.specs.declared.ty.Ty.{Two, Pow, Fun, Omega};
-ghost use Rattle.topos_model.specs.declared.value.Val.{Val, Two as Pair, Sub, Fn};
+ghost use Rattle.topos_model.specs.declared.ty.Ty.{Pow, Fun};
+ghost use Rattle.topos_model.specs.declared.value.Val.{Sub, Fn};
 ghost use Rattle.topos_model.specs.types.Types.{Presheaf};
 ghost use Rattle.finite_lists.specs.Members.{In};
-ghost use Rattle.functor_store.specs.Faithful.{Holds, Stands};
+ghost use Rattle.functor_store.specs.Faithful.{Stands};
 ghost use Rattle.sealed_types.specs.Sealed.{sizes_in};
-ghost use Rattle.fin_category.specs.ArrowSets.{arrows_in};
-ghost use Rattle.term_tables.specs.Parts.{IsSealed};
-ghost use Rattle.element_values.specs.Known.{Knows, IsElement, HasValue, count_of};
+ghost use Rattle.element_values.specs.Known.{Knows, IsElement};
 ghost use Rattle.element_values.specs.Places.{places_over, places_at, marked, imaged, entry_at, assign_at, IsPlace, IsImage};
 
 use crate::Elements;
-use fin_category::{ArrowMask, Cat};
+use crate::sealed::place_of;
+use fin_category::Cat;
 use functor_store::{FunctorId, FunctorStore};
 use std::alloc::Global;
-use topos_model::{Boxed, NoMemory, Row, Ty, Val};
+use topos_model::{Boxed, NoMemory, Row, Ty};
 
 /// An arrow, and the number of an element over its domain.
 #[derive(Clone, Copy, Drop)]
@@ -30,28 +29,6 @@ pub(crate) struct Image {
     pub(crate) arrow: u32,
     pub(crate) element: u32,
     pub(crate) value: u32,
-}
-
-// The place of a type that is sealed.
-fn place_of(store: &FunctorStore, ty: &Ty) -> FunctorId
-    requires held { Holds store.now ty.now }
-    ensures place { IsSealed store.now ty.now result }
-{
-    match store.find(ty) {
-        Some(id) => id,
-        None => unreachable!(),
-    }
-}
-
-/// How many elements a sealed type has at c.
-pub(crate) fn count(elements: &Elements<'_>, ty: &Ty, c: u32) -> u32
-    requires known { (functors : List Presheaf) × Knows elements.now functors }
-    requires held { Holds elements.now.store.now ty.now }
-    requires object { c < elements.now.site.now.category.objects }
-    ensures { (functors : List Presheaf) → Knows elements.now functors → result ≡ count_of elements.now functors ty.now c }
-{
-    let store = elements.store;
-    store.count(place_of(store, ty), c)
 }
 
 // Puts the places with the arrow f last.
@@ -102,9 +79,10 @@ fn marked(alloc: Global, places: &[Place], row: &[u32]) -> Result<Row<Place>, No
     ensures { IfOk result (λ kept. kept ≡ marked places.now row.now) }
 {
     let mut kept = Row::new(alloc);
-    'each: for i in 0..places.len() {
-        if row[i] == 1 {
-            kept.push(places[i])?;
+    for (i, place) in places.iter().enumerate() {
+        let is_member = row[i] == 1;
+        if is_member {
+            kept.push(*place)?;
         }
     }
     Ok(kept)
@@ -116,10 +94,10 @@ fn imaged(alloc: Global, places: &[Place], row: &[u32]) -> Result<Row<Image>, No
     ensures { IfOk result (λ images. images ≡ imaged places.now row.now) }
 {
     let mut images = Row::new(alloc);
-    'each: for i in 0..places.len() {
+    for (i, place) in places.iter().enumerate() {
         images.push(Image {
-            arrow: places[i].arrow,
-            element: places[i].element,
+            arrow: place.arrow,
+            element: place.element,
             value: row[i],
         })?;
     }
@@ -171,50 +149,4 @@ pub(crate) fn images(
     let domain = place_of(store, from.get());
     let places = places_at(alloc, cat, store, domain, c)?;
     imaged(alloc, places.as_slice(), store.element(whole, c, k))
-}
-
-/// The numbers of the parts of the pair number k at c.
-pub(crate) fn halves(
-    elements: &Elements<'_>,
-    left: &Boxed<Ty>,
-    right: &Boxed<Ty>,
-    c: u32,
-    k: u32,
-) -> (u32, u32)
-    requires element { (functors : List Presheaf) × IsElement elements.now functors (Two left.now right.now) c k }
-    ensures first { (functors : List Presheaf) × IsElement elements.now functors left.now c result.0 }
-    ensures second { (functors : List Presheaf) × IsElement elements.now functors right.now c result.1 }
-    ensures value { (u v : Val) → HasValue elements.now left.now c result.0 u → HasValue elements.now right.now c result.1 v → HasValue elements.now (Two left.now right.now) c k (Pair u v) }
-{
-    // The type of the first parts is a condition alone.
-    let _ = left;
-    let count = count(elements, right.get(), c);
-    (k / count, k % count)
-}
-
-// The arrows of a set.
-fn arrows_of(alloc: Global, set: ArrowMask) -> Result<Row<u32>, NoMemory>
-    ensures { IfOk result (λ arrows. arrows ≡ arrows_in set) }
-{
-    let mut arrows = Row::new(alloc);
-    for f in set.iter() {
-        arrows.push(f)?;
-    }
-    Ok(arrows)
-}
-
-/// The truth value number k at c: the arrows of its sieve, in order.
-pub(crate) fn truth_value(
-    alloc: Global,
-    elements: &Elements<'_>,
-    c: u32,
-    k: u32,
-) -> Result<Val, NoMemory>
-    requires element { (functors : List Presheaf) × IsElement elements.now functors Omega c k }
-    ensures value { IfOk result (λ v. HasValue elements.now Omega c k v) }
-{
-    match elements.omega {
-        Some(omega) => Ok(Val::Sv(arrows_of(alloc, omega.sieve(c, k))?)),
-        None => unreachable!(),
-    }
 }

@@ -5,7 +5,7 @@ ghost use Rattle.topos_model.specs.statements.Answers.{tuple_of};
 ghost use Rattle.functor_store.specs.Faithful.{IsFaithful};
 ghost use Rattle.element_values.specs.Known.{IsWorldOf, IsTuple, values_at};
 
-use crate::places::count;
+use crate::sealed::count;
 use crate::{Elements, element_value};
 use std::alloc::Global;
 use topos_model::{NoMemory, Row, Tuple, Ty, Val};

@@ -9,7 +9,9 @@ ghost use Rattle.element_values.specs.Known.{Knows, IsElement, HasValue};
 ghost use Rattle.element_values.specs.Places.{entry_at, assign_at, IsPlace, IsImage};
 
 use crate::Elements;
-use crate::places::{Image, Place, halves, images, members, truth_value};
+use crate::pairs::part_numbers;
+use crate::places::{Image, Place, images, members};
+use crate::truth_values::truth_value;
 use std::alloc::Global;
 use topos_model::{Assign, Boxed, Entry, NoMemory, Row, Ty, Val};
 
@@ -42,6 +44,7 @@ pub fn element_value(
     }
 }
 
+// The element number k of a part of a type at c.
 #[cycle(values)]
 fn part(
     alloc: Global,
@@ -69,7 +72,7 @@ fn pair(
     requires element { (functors : List Presheaf) × IsElement elements.now functors (Two left.now right.now) c k }
     ensures value { IfOk result (λ v. HasValue elements.now (Two left.now right.now) c k v) }
 {
-    let (i, j) = halves(elements, left, right, c, k);
+    let (i, j) = part_numbers(elements, left, right, c, k);
     let first = part(alloc, elements, left, c, i)?;
     let second = part(alloc, elements, right, c, j)?;
     Ok(Val::Two(Boxed::new(alloc, first)?, Boxed::new(alloc, second)?))
@@ -88,9 +91,9 @@ fn subset(
 {
     let cat = elements.site.cat();
     let mut entries = Row::new(alloc);
-    for i in 0..places.len() {
-        let arrow = places[i].arrow;
-        let val = part(alloc, elements, of, cat.dom(arrow), places[i].element)?;
+    for place in places {
+        let arrow = place.arrow;
+        let val = part(alloc, elements, of, cat.dom(arrow), place.element)?;
         entries.push(Entry { arrow, val })?;
     }
     Ok(Val::Sub(entries))
@@ -110,10 +113,11 @@ fn function(
 {
     let cat = elements.site.cat();
     let mut assigns = Row::new(alloc);
-    for i in 0..images.len() {
-        let arrow = images[i].arrow;
-        let val = part(alloc, elements, from, cat.dom(arrow), images[i].element)?;
-        let to = part(alloc, elements, to, cat.dom(arrow), images[i].value)?;
+    for image in images {
+        let arrow = image.arrow;
+        let source = cat.dom(arrow);
+        let val = part(alloc, elements, from, source, image.element)?;
+        let to = part(alloc, elements, to, source, image.value)?;
         assigns.push(Assign { arrow, val, to })?;
     }
     Ok(Val::Fn(assigns))

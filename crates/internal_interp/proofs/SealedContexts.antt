@@ -103,6 +103,14 @@ module _ (types : List Ty) (k : ℕ) (T : Ty) (low : k < length types) (is : get
       ((P : Ty) → In (parts (product (reverse types))) P → Holds i.store.now P) → IsBinding w maps i (reverse (take k types)) context T
   binding_to w maps i context knows scope held = record { knows = knows; scope = scope; variable = held T type_to; whole = held (product (T ∷ reverse (take k types))) product_to }
 
+-- the first type alone
+pub first_type : (types : List Ty) (T : Ty) → 0 < length types → get_or types 0 T ≡ T → reverse (take 1 types) ≡ T ∷ []
+first_type types T low is = types_to types 0 T low is ∙ ap (λ l. T ∷ reverse l) (nothing types)
+  where
+    nothing : (l : List Ty) → take 0 l ≡ []
+    nothing [] = refl
+    nothing (x ∷ l) = refl
+
 pub no_types : (types : List Ty) → length types ≡ 0 → types ≡ []
 no_types [] e = refl
 no_types (T ∷ types) e = absurd (omega (arith, e))

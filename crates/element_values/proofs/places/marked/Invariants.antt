@@ -3,5 +3,5 @@ use Rattle.element_values.specs.Places.{marked}
 use Rattle.element_values.proofs.places.marked.Given as goal
 
 -- what is left gives the whole
-abbrev pub invariant-each : goal.invariant-each
-invariant-each l = l.kept ++ marked (drop l.i l.places) (drop l.i l.row) ≡ marked l.places l.row
+abbrev pub invariant-loop-i : goal.invariant-loop-i
+invariant-loop-i l = l.kept ++ marked (drop l.i l.places) (drop l.i l.row) ≡ marked l.places l.row

@@ -1,8 +1,7 @@
-use Rattle.std.proofs.Common.{rules, ◌≡◌, ◌<◌, length, get_or, sym, subst, ap, ◌∙◌}
+use Rattle.std.proofs.Common.{rules, ◌<◌, length, get_or, sym, subst}
 use Rattle.finite_lists.proofs.Lists.{In_at}
 use Rattle.topos_model.specs.declared.ty.Ty.{the_lemmas, Base, One, Two}
 use Rattle.topos_model.specs.declared.value.Val.{El, Star, Two as Pair}
-use Rattle.topos_model.specs.categories.Category.{dom}
 use Rattle.functor_store.specs.Faithful.{Stands}
 use Rattle.element_values.specs.Known.{IsElement, HasValue}
 use Rattle.element_values.proofs.FormValues.{base_stands, one_stands}
@@ -32,27 +31,22 @@ element_value-returns-in-One t c =
           (one_stands e.site.now functors' c.args.c c.args.k (element_under e functors functors' One c.args.c c.args.k here know).within);
     }
 
-pub function-dom-requires : goal.function-dom-requires
-function-dom-requires t c =
-    let p = c.requires.images _ (In_at c.args.images.now c.loop-i.i _ c.loop-i-test.true) in
-    subst (λ k. (get_or c.args.images.now c.loop-i.i record { arrow = 0; element = 0; value = 0 }).arrow < length k.ends) (sym c.cat-cat.ensures) p.arrow
+pub function-dom-source-requires : goal.function-dom-source-requires
+function-dom-source-requires t c =
+    let p = c.requires.images _ (In_at c.args.images.now c.loop-image.image-index _ c.loop-image-test.true) in
+    subst (λ k. (get_or c.args.images.now c.loop-image.image-index record { arrow = 0; element = 0; value = 0 }).arrow < length k.ends) (sym c.cat-cat.ensures) p.arrow
 
 pub function-part-requires : goal.function-part-requires
 function-part-requires t c =
-    let p = c.requires.images _ (In_at c.args.images.now c.loop-i.i _ c.loop-i-test.true) in
+    let p = c.requires.images _ (In_at c.args.images.now c.loop-image.image-index _ c.loop-image-test.true) in
     let (functors, h) = p.element in
-    (search (rules, the_lemmas), (functors, place_element _ functors _ _ c.dom.result _ _ c.cat-cat.ensures c.dom.ensures.value h))
+    (search (rules, the_lemmas), (functors, place_element _ functors _ _ c.dom-source.result _ _ c.cat-cat.ensures c.dom-source.ensures.value h))
 
-pub function-dom-requires-in-loop-i : goal.function-dom-requires-in-loop-i
-function-dom-requires-in-loop-i t c =
-    let p = c.requires.images _ (In_at c.args.images.now c.loop-i.i _ c.loop-i-test.true) in
-    subst (λ k. (get_or c.args.images.now c.loop-i.i record { arrow = 0; element = 0; value = 0 }).arrow < length k.ends) (sym c.cat-cat.ensures) p.arrow
-
-pub function-part-requires-in-loop-i : goal.function-part-requires-in-loop-i
-function-part-requires-in-loop-i t c =
-    let p = c.requires.images _ (In_at c.args.images.now c.loop-i.i _ c.loop-i-test.true) in
+pub function-part-requires-in-loop-image : goal.function-part-requires-in-loop-image
+function-part-requires-in-loop-image t c =
+    let p = c.requires.images _ (In_at c.args.images.now c.loop-image.image-index _ c.loop-image-test.true) in
     let (functors, h) = p.value in
-    (search (rules, the_lemmas), (functors, place_element _ functors _ _ c.dom-in-loop-i.result _ _ c.cat-cat.ensures c.dom-in-loop-i.ensures.value h))
+    (search (rules, the_lemmas), (functors, place_element _ functors _ _ c.dom-source.result _ _ c.cat-cat.ensures c.dom-source.ensures.value h))
 
 pub pair-returns : goal.pair-returns
 pair-returns t c =
@@ -62,16 +56,16 @@ pair-returns t c =
       value =
           subst (λ u. HasValue e T c.args.c c.args.k (Pair u c.in_ok-new-2.field-0)) (sym c.in_ok-new.ensures)
           (subst (λ v. HasValue e T c.args.c c.args.k (Pair c.in_ok-first.first v)) (sym c.in_ok-new-2.ensures)
-          (c.halves-i.ensures.value c.in_ok-first.first c.in_ok-second.second c.in_ok-first.ensures.value c.in_ok-second.ensures.value));
+          (c.part_numbers-i.ensures.value c.in_ok-first.first c.in_ok-second.second c.in_ok-first.ensures.value c.in_ok-second.ensures.value));
     }
 
 pub subset-dom-requires : goal.subset-dom-requires
 subset-dom-requires t c =
-    let p = c.requires.places _ (In_at c.args.places.now c.loop-i.i _ c.loop-i-test.true) in
-    subst (λ k. (get_or c.args.places.now c.loop-i.i record { arrow = 0; element = 0 }).arrow < length k.ends) (sym c.cat-cat.ensures) p.arrow
+    let p = c.requires.places _ (In_at c.args.places.now c.loop-place.place-index _ c.loop-place-test.true) in
+    subst (λ k. (get_or c.args.places.now c.loop-place.place-index record { arrow = 0; element = 0 }).arrow < length k.ends) (sym c.cat-cat.ensures) p.arrow
 
 pub subset-part-requires : goal.subset-part-requires
 subset-part-requires t c =
-    let p = c.requires.places _ (In_at c.args.places.now c.loop-i.i _ c.loop-i-test.true) in
+    let p = c.requires.places _ (In_at c.args.places.now c.loop-place.place-index _ c.loop-place-test.true) in
     let (functors, h) = p.element in
     (search (rules, the_lemmas), (functors, place_element _ functors _ _ c.dom.result _ _ c.cat-cat.ensures c.dom.ensures.value h))

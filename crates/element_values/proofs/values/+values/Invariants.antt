@@ -20,8 +20,8 @@ decreases-subset l = 3 * size-Ty l.of.now + 2
 abbrev pub decreases-function : goal.decreases-function
 decreases-function l = 3 * max (size-Ty l.from.now) (size-Ty l.to.now) + 2
 
-abbrev pub invariant-subset-loop-i : goal.invariant-subset-loop-i
-invariant-subset-loop-i l = (functors : List Presheaf) → Knows l.elements functors → l.entries ≡ map (entry_at l.elements.site.now functors l.of) (take l.i l.places)
+abbrev pub invariant-subset-loop-place : goal.invariant-subset-loop-place
+invariant-subset-loop-place l = (functors : List Presheaf) → Knows l.elements functors → l.entries ≡ map (entry_at l.elements.site.now functors l.of) (take l.place-index l.places)
 
-abbrev pub invariant-function-loop-i : goal.invariant-function-loop-i
-invariant-function-loop-i l = (functors : List Presheaf) → Knows l.elements functors → l.assigns ≡ map (assign_at l.elements.site.now functors l.from l.to) (take l.i l.images)
+abbrev pub invariant-function-loop-image : goal.invariant-function-loop-image
+invariant-function-loop-image l = (functors : List Presheaf) → Knows l.elements functors → l.assigns ≡ map (assign_at l.elements.site.now functors l.from l.to) (take l.image-index l.images)

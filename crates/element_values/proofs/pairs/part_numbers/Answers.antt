@@ -1,8 +1,8 @@
-use Rattle.std.proofs.Common.{◌≡◌, length, sym, subst, ap, ◌∙◌}
+use Rattle.std.proofs.Common.{sym, subst, ap, ◌∙◌}
 use Rattle.functor_store.specs.Faithful.{Holds}
 use Rattle.element_values.specs.Known.{count_of}
 use Rattle.element_values.proofs.Parts.{itself, readable_right, count_some, first_half, second_half, pair_value}
-use Rattle.element_values.proofs.places.halves.Goals as goal
+use Rattle.element_values.proofs.pairs.part_numbers.Goals as goal
 
 pub count-count-requires-clause-held : goal.count-count-requires-clause-held
 count-count-requires-clause-held c =

@@ -1,11 +1,10 @@
-use Rattle.std.proofs.Common.{◌<◌, length, sym, subst, ap, ◌∙◌, arith}
+use Rattle.std.proofs.Common.{sym, subst, ◌∙◌, arith}
 use Rattle.topos_model.specs.declared.ty.Ty.{Omega}
 use Rattle.topos_model.specs.declared.value.Val.{Sv}
 use Rattle.functor_store.specs.Faithful.{Stands}
-use Rattle.omega_object.specs.TruthValues.{sieve_at}
 use Rattle.element_values.proofs.FormValues.{sieve_stands, sieve_within, sieve_is}
 use Rattle.element_values.proofs.Parts.{omega_is, has_omega, element_under}
-use Rattle.element_values.proofs.places.truth_value.Goals as goal
+use Rattle.element_values.proofs.truth_values.truth_value.Goals as goal
 
 pub sieve-requires-clause-object : goal.sieve-requires-clause-object
 sieve-requires-clause-object c =

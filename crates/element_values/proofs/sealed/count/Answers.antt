@@ -1,6 +1,6 @@
 use Rattle.std.proofs.Common.{◌<◌, sym, subst, ◌∙◌}
 use Rattle.element_values.proofs.Parts.{sealed_count}
-use Rattle.element_values.proofs.places.count.Goals as goal
+use Rattle.element_values.proofs.sealed.count.Goals as goal
 
 pub count-requires-clause-object : goal.count-requires-clause-object
 count-requires-clause-object c = let (functors, know) = c.requires.known in subst (λ n. c.args.c < n) (sym know.objects) c.requires.object

@@ -1,6 +1,6 @@
 use Rattle.std.proofs.Common.{◌≡◌, ◌++◌}
 use Rattle.fin_category.specs.ArrowSets.{arrows_in, left_in}
-use Rattle.element_values.proofs.places.arrows_of.Given as goal
+use Rattle.element_values.proofs.truth_values.arrows_of.Given as goal
 
 -- what is left gives the whole
 abbrev pub invariant-loop-f : goal.invariant-loop-f
