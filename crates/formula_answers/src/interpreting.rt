@@ -1,0 +1,37 @@
+// What formulas are interpreted by, and what their tuples are read from.
+ghost use Rattle.std.specs.Prelude.{◌≡◌};
+ghost use Rattle.formula_tables.specs.Stages.{AreStages};
+ghost use Rattle.formula_answers.specs.Formulas.{world_of, reading, Serves};
+
+use element_values::Elements;
+use formula_tables::Stages;
+use internal_interp::Interpreter;
+use sealed_world::SealedWorld;
+
+/// A sealed world, whose types are sealed and whose presheaves are declared, without maps.
+pub(crate) fn interpreter<'a>(world: &'a SealedWorld, stages: &'a Stages) -> Interpreter<'a>
+    requires stages { AreStages (world_of world.now) stages.now }
+    ensures serves { Serves world.now result }
+{
+    let site = world.site();
+    site.cat().laws();
+    let _top = site.top();
+    Interpreter {
+        site,
+        stages,
+        store: world.store(),
+        omega: world.truth_values(),
+        maps: &[],
+    }
+}
+
+/// The same site, store and truth values.
+pub(crate) fn elements<'a>(interpreter: &Interpreter<'a>) -> Elements<'a>
+    ensures { result ≡ reading interpreter.now }
+{
+    Elements {
+        site: interpreter.site,
+        store: interpreter.store,
+        omega: interpreter.omega,
+    }
+}
