@@ -1,12 +1,12 @@
 -- Declared maps, and formulas over declared functors, as the run sees them.
-use Rattle.std.proofs.Common.{◌≡◌, ℕ, ◌+◌, ◌<◌, Bool, true, not, ◌&&◌, List, [], ◌∷◌, ◌++◌, map, reverse, length, get_or, take, slice_get, is_none, Some, None, refl, sym, ap, ◌∙◌, subst, arith}
+use Rattle.std.proofs.Common.{◌≡◌, ℕ, ◌+◌, ◌<◌, Bool, true, not, ◌&&◌, List, [], ◌∷◌, ◌++◌, map, reverse, length, get_or, take, slice_get, is_none, Option, Some, None, refl, sym, ap, ◌∙◌, subst, arith}
 use Rattle.std.specs.List.{list_any, list_all, range_with_len}
-use Rattle.std.proofs.lemmas.Bool.{and_right}
+use Rattle.std.proofs.lemmas.Bool.{and_right, and_parts, eqb-true}
 use Rattle.std.proofs.lemmas.List.{map-append, length-map, take_more, get_or-map, ext_get_or}
 use Rattle.std.proofs.lemmas.List.FromFn.{length-map-range_with_len, get_or-map-range_with_len}
 use Rattle.topos_model.proofs.ValueEquations.{number_of-El}
 use Rattle.std.proofs.lemmas.Option.{get_or_from_slice_get, slice_get_within}
-use Rattle.finite_lists.specs.First.{some_if}
+use Rattle.finite_lists.specs.First.{or_else, some_if}
 use Rattle.finite_lists.proofs.DistinctLists.{In-range_from}
 use Rattle.finite_lists.proofs.FirstAnswers.{first_none}
 use denote.Hole.Carrier
@@ -18,8 +18,9 @@ use Rattle.topos_model.specs.declared.term.Term.{Term}
 use Rattle.topos_model.specs.declared.value.Val.{Val, El}
 use Rattle.topos_model.specs.declared.doc.Doc.{Doc}
 use Rattle.topos_model.specs.declared.stmt.Stmt.{Stmt}
-use Rattle.topos_model.specs.declared.stmt.Stmt.TheVariants.{Show}
-use Rattle.topos_model.specs.declared.fault.Fault.TheVariants.{NotASheaf}
+use Rattle.topos_model.specs.declared.stmt.Stmt.TheVariants.{Show, Classify, Valid}
+use Rattle.topos_model.specs.declared.fault.Fault.{Fault}
+use Rattle.topos_model.specs.declared.fault.Fault.TheVariants.{NotASheaf, NotParallel}
 use Rattle.topos_model.specs.categories.Category.{Category}
 use Rattle.topos_model.specs.topologies.Cover.{Site}
 use Rattle.topos_model.specs.types.Values.{number_of}
@@ -31,21 +32,21 @@ use Rattle.topos_model.specs.types.SameType.{same_type}
 use Rattle.topos_model.specs.statements.Needs.{named, under, needs, terms_of, types_of, is_functor}
 use Rattle.topos_model.specs.statements.Cells.{is_named}
 use Rattle.topos_model.specs.statements.StatementFaults.{foreign_map_fault, formula_fault, typing_fault}
-use Rattle.topos_model.specs.formulas.Forcing.{shown}
+use Rattle.topos_model.specs.formulas.Forcing.{World, shown}
 use Rattle.topos_model.specs.statements.Declarations.{Declared, DeclaredMap, site_of, map_ends, world_under, functor_at, map_at, ends_at, domain_at, codomain_at, components_at, with_types}
-use Rattle.topos_model.specs.statements.Answers.{element_pairs, functor_map}
+use Rattle.topos_model.specs.statements.Answers.{element_pairs, functor_map, unforced, classified}
 use Rattle.topos_model.specs.statements.Refusals.{foreign_refusal, sheaf_refusal, term_refusal, ends_fit, refusal}
-use Rattle.topos_session.specs.Ranges.{is_propositional, is_trivial}
-use Rattle.topos_session.specs.Built.{is_built}
-use Rattle.topos_session.specs.Variables.{AreFunctors, presheaf_world}
+use Rattle.topos_session.specs.Ranges.{applies_none, is_formula_in_range, is_in_range, is_trivial}
+use Rattle.topos_session.specs.Built.{is_formula_built, is_built}
+use Rattle.topos_session.specs.Functors.{AreFunctors}
 use Rattle.topos_session.specs.declared.declarations.FunctorMap.{FunctorMap}
 use Rattle.topos_session.specs.declared.declarations.Declarations.{Declarations}
 use Rattle.topos_session.specs.Declarations.{declared_map, with_counted, AreLawful, no_map}
 use Rattle.topos_session.specs.Declarations as session
 use Rattle.topos_session.specs.Progress.{declared_by}
-use Rattle.topos_session.proofs.PropositionalTypes.{propositional_typed, propositional_applies_none, named_reversed}
-use Rattle.topos_session.proofs.CountedTypes.{needs_same}
-use Rattle.topos_session.proofs.MapsAside.{shown_aside}
+use Rattle.topos_session.specs.Statements.{formula_refusal}
+use Rattle.formula_answers.specs.Formulas.{world_of}
+use Rattle.topos_session.proofs.FormulaStatements.{needs_same, applied_none, same_fault, same_shown, same_unforced, same_classified}
 use Rattle.topos_session.proofs.TrivialSites.{no_sheaf_fault}
 use Rattle.topos_session.proofs.SiteRefusals.{site_is}
 
@@ -95,12 +96,12 @@ abbrev counted_for : Stmt → ℕ × List Ty
 counted_for stmt = (under stmt, needs [] stmt)
 
 -- a statement that is answered adds its types
-pub next_types : (doc : Doc) (so : Declarations) (i : ℕ) (stmt : Stmt) → slice_get doc.stmts i ≡ Some stmt → is_built stmt ≡ true →
+pub next_types : (doc : Doc) (so : Declarations) (i : ℕ) (stmt : Stmt) (objects : ℕ) (ends : List (ℕ × ℕ)) (n l : ℕ) → slice_get doc.stmts i ≡ Some stmt → is_in_range objects ends n l stmt ≡ true → is_built stmt ≡ true →
     with_types (declared_by doc so i) stmt ≡ declared_by doc so (i + 1)
 unfolding with_types
-next_types doc so i stmt next built =
+next_types doc so i stmt objects ends n l next range built =
     ap (with_counted so)
-    (ap (λ (T : List Ty). map counted_for (take i doc.stmts) ++ (under stmt, T) ∷ []) (needs_same (map_ends (declared_by doc so i)) stmt built)
+    (ap (λ (T : List Ty). map counted_for (take i doc.stmts) ++ (under stmt, T) ∷ []) (needs_same (map_ends (declared_by doc so i)) objects ends n l stmt range built)
     ∙ sym (ap (map counted_for) more ∙ map-append counted_for (take i doc.stmts) (stmt ∷ [])))
   where
     more : take (i + 1) doc.stmts ≡ take i doc.stmts ++ stmt ∷ []
@@ -147,35 +148,76 @@ module _ (doc : Doc) (trivial : is_trivial doc.tops ≡ true) (so : Declarations
       (range_with_len 0 (length so.world.functors))
       (λ n i. ap (λ (l : List Ty). some_if (list_any (is_functor n) l && not (is_none (sheaf_fault (site_of doc (under stmt)) (functor_at d n)))) (NotASheaf n)) none)
 
-  -- a propositional formula over functors is accepted
-  module _ (lawful : IsCategory k) (are : AreFunctors k so.world.functors) (ctx : Ctx) (φ : Term) (all : list_all is_named ctx.types ≡ true) (form : is_propositional (map named (reverse ctx.types)) φ ≡ true) where
-    no_foreign_map : foreign_refusal doc d (Show 0 ctx φ) ≡ None
-    unfolding foreign_refusal foreign_map_fault terms_of
-    no_foreign_map = rw (propositional_applies_none (map named (reverse ctx.types)) φ form) refl
-
-    well_typed : typing_fault (map_ends d) (Show 0 ctx φ) ≡ None
-    unfolding typing_fault formula_fault terms_of same_type hidden-the_row-Ty-0 Carrier.hidden
-    well_typed = rw (propositional_typed (map_ends d) (reverse ctx.types) φ (named_reversed ctx.types all) form) refl
-
+  -- where only the maximal sieves cover, each functor is a sheaf
+  module _ (lawful : IsCategory k) (are : AreFunctors k so.world.functors) where
     is_sheaf : (m : ℕ) → m < length so.world.functors → is_none (sheaf_fault (site_of doc 0) (functor_at d m)) ≡ true
     is_sheaf m low = rw (site_is doc k trivial refl, no_sheaf_fault k lawful (functor_at d m) (are m low)) refl
 
-    all_sheaves : sheaf_refusal doc d (Show 0 ctx φ) ≡ None
-    unfolding sheaf_refusal under
-    all_sheaves =
-        first_none (λ m. some_if (list_any (is_functor m) (types_of (map_ends d) (Show 0 ctx φ)) && not (is_none (sheaf_fault (site_of doc 0) (functor_at d m)))) (NotASheaf m))
+    all_sheaves : (stmt : Stmt) → under stmt ≡ 0 → sheaf_refusal doc d stmt ≡ None
+    unfolding sheaf_refusal
+    all_sheaves stmt first =
+        first_none (λ m. some_if (list_any (is_functor m) (types_of (map_ends d) stmt) && not (is_none (sheaf_fault (site_of doc (under stmt)) (functor_at d m)))) (NotASheaf m))
         (range_with_len 0 (length so.world.functors))
         (λ m i.
         let r = In-range_from 0 (length so.world.functors) m i in
         ap (λ (b : Bool). some_if b (NotASheaf m))
-        (and_right (list_any (is_functor m) (types_of (map_ends d) (Show 0 ctx φ))) _ (ap not (is_sheaf m (omega (arith, r.1))))))
+        (and_right (list_any (is_functor m) (types_of (map_ends d) stmt)) _ (ap not (ap (λ (j : ℕ). is_none (sheaf_fault (site_of doc j) (functor_at d m))) first ∙ is_sheaf m (omega (arith, r.1))))))
 
-    pub formula_accepted : refusal doc d (Show 0 ctx φ) ≡ None
-    unfolding refusal term_refusal ends_fit
-    formula_accepted = rw (no_foreign_map, well_typed, all_sheaves) refl
+    -- a formula that applies no map is refused for its types alone
+    module _ (j : ℕ) (ctx : Ctx) (φ : Term) (range : is_formula_in_range (length so.world.functors) (length so.maps) ctx φ ≡ true) (built : is_formula_built j φ ≡ true) where
+      abbrev Γ : List Ty
+      Γ = reverse ctx.types
 
-    pub formula_shown : (c : ℕ) → shown (presheaf_world k so.world.functors) (reverse ctx.types) φ c ≡ shown (world_under doc d 0) (reverse ctx.types) φ c
-    unfolding world_under
-    formula_shown c =
-        shown_aside (presheaf_world k so.world.functors).site so.world.functors [] (map (λ (m : DeclaredMap). m.pairs) d.maps) (map named (reverse ctx.types)) (reverse ctx.types) φ form c
-        ∙ ap (λ (s : Site). shown (record { site = s; functors = so.world.functors; maps = map (λ (m : DeclaredMap). m.pairs) d.maps }) (reverse ctx.types) φ c) (sym (site_is doc k trivial refl))
+      first_topology : j ≡ 0
+      unfolding is_formula_built
+      first_topology = eqb-true j 0 (and_parts _ _ built).0
+
+      without_maps : applies_none φ ≡ true
+      unfolding is_formula_built
+      without_maps = (and_parts _ _ built).1
+
+      or_none : (o : Option Fault) → or_else o None ≡ o
+      or_none None = refl
+      or_none (Some fault) = refl
+
+      no_foreign_map : (stmt : Stmt) → terms_of stmt ≡ (Γ, φ) ∷ [] → foreign_refusal doc d stmt ≡ None
+      unfolding foreign_refusal foreign_map_fault
+      no_foreign_map stmt terms = rw (terms, applied_none φ without_maps) refl
+
+      -- the refusals that a statement about it has in turn
+      in_turn : (stmt : Stmt) → terms_of stmt ≡ (Γ, φ) ∷ [] → under stmt ≡ j → typing_fault (map_ends d) stmt ≡ or_else (formula_fault (map_ends d) (Γ, φ)) None → ends_fit doc d stmt ≡ true →
+          or_else (some_if (not (ends_fit doc d stmt)) NotParallel) (term_refusal doc d stmt) ≡ formula_refusal j ctx φ
+      unfolding term_refusal formula_refusal
+      in_turn stmt terms place typing fit =
+          rw (fit, no_foreign_map stmt terms, all_sheaves stmt (place ∙ first_topology), typing ∙ or_none (formula_fault (map_ends d) (Γ, φ)) ∙ same_fault (length so.world.functors) (length so.maps) ctx φ range without_maps (map_ends d), built)
+          (or_none (formula_fault [] (Γ, φ)))
+
+      pub show_refusal : refusal doc d (Show j ctx φ) ≡ formula_refusal j ctx φ
+      unfolding refusal terms_of under typing_fault ends_fit
+      show_refusal = in_turn (Show j ctx φ) refl refl refl refl
+
+      pub classify_refusal : refusal doc d (Classify j ctx φ) ≡ formula_refusal j ctx φ
+      unfolding refusal terms_of under typing_fault ends_fit
+      classify_refusal = in_turn (Classify j ctx φ) refl refl refl refl
+
+      pub valid_refusal : refusal doc d (Valid j ctx φ) ≡ formula_refusal j ctx φ
+      unfolding refusal terms_of under typing_fault ends_fit
+      valid_refusal = in_turn (Valid j ctx φ) refl refl refl refl
+
+      -- and means the same in the world of the statement
+      module _ (site : so.world.site ≡ site_of doc 0) where
+        abbrev pairs : List (List (List (Val × Val)))
+        pairs = map (λ (m : DeclaredMap). m.pairs) d.maps
+
+        world_is : world_under doc d j ≡ record { site = so.world.site; functors = so.world.functors; maps = pairs }
+        unfolding world_under
+        world_is = ap (λ (s : Site). record { site = s; functors = so.world.functors; maps = pairs }) (ap (site_of doc) first_topology ∙ sym site)
+
+        pub shown_here : (c : ℕ) → shown (world_of so.world) Γ φ c ≡ shown (world_under doc d j) Γ φ c
+        shown_here c = sym (same_shown (length so.world.functors) (length so.maps) ctx φ range without_maps so.world.site so.world.functors pairs c) ∙ ap (λ (w : World). shown w Γ φ c) (sym world_is)
+
+        pub unforced_here : (c : ℕ) → unforced (world_of so.world) Γ φ c ≡ unforced (world_under doc d j) Γ φ c
+        unforced_here c = sym (same_unforced (length so.world.functors) (length so.maps) ctx φ range without_maps so.world.site so.world.functors pairs c) ∙ ap (λ (w : World). unforced w Γ φ c) (sym world_is)
+
+        pub classified_here : (c : ℕ) → classified (world_of so.world) Γ φ c ≡ classified (world_under doc d j) Γ φ c
+        classified_here c = sym (same_classified (length so.world.functors) (length so.maps) ctx φ range without_maps so.world.site so.world.functors pairs c) ∙ ap (λ (w : World). classified w Γ φ c) (sym world_is)

@@ -3,7 +3,7 @@ use Rattle.std.proofs.Common.{◌≡◌, ℕ, ◌+◌, ◌<◌, ◌≤◌, Bool,
 use Rattle.std.proofs.lemmas.Bool.{and_parts, leb-true}
 use Rattle.std.proofs.Math.Seq.{drop-cons}
 use Rattle.topos_model.specs.declared.stmt.Stmt.{Stmt}
-use Rattle.topos_model.specs.declared.stmt.Stmt.TheVariants.{Presheaf, Map, Product, Coproduct, Equalizer, Coequalizer, Pullback, Pushout, Image, Empty, Hom, Show}
+use Rattle.topos_model.specs.declared.stmt.Stmt.TheVariants.{Presheaf, Map, Product, Coproduct, Equalizer, Coequalizer, Pullback, Pushout, Image, Empty, Hom, Show, Classify, Valid}
 use Rattle.topos_model.specs.declared.doc.Doc.{Doc}
 use Rattle.topos_model.specs.categories.Listed.{all_ends}
 use Rattle.topos_model.specs.statements.Form.{is_category_listing}
@@ -97,6 +97,8 @@ declares_few (Image m z i j) made e = few 1 2 made e (omega arith) (omega arith)
 declares_few (Empty z) made e = few 1 0 made e (omega arith) (omega arith)
 declares_few (Hom x y) made e = few 0 0 made e (omega arith) (omega arith)
 declares_few (Show under ctx φ) made e = few 0 0 made e (omega arith) (omega arith)
+declares_few (Classify under ctx φ) made e = few 0 0 made e (omega arith) (omega arith)
+declares_few (Valid under ctx φ) made e = few 0 0 made e (omega arith) (omega arith)
 declares_few _ made e = cc
 
 -- a statement of a kind that is not run asks for nothing
@@ -113,4 +115,6 @@ unasked objects ends n l (Pushout m m' z i j) e = cc
 unasked objects ends n l (Image m z i j) e = cc
 unasked objects ends n l (Hom x y) e = cc
 unasked objects ends n l (Show under ctx φ) e = cc
+unasked objects ends n l (Classify under ctx φ) e = cc
+unasked objects ends n l (Valid under ctx φ) e = cc
 unasked objects ends n l _ e = refl

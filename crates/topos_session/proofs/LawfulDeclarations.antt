@@ -8,7 +8,7 @@ use Rattle.topos_model.specs.Laws.{IsFunctor}
 use Rattle.topos_model.specs.presheaves.Maps.{Components, IsNatural}
 use Rattle.topos_session.specs.declared.declarations.FunctorMap.{FunctorMap}
 use Rattle.topos_session.specs.declared.declarations.Declarations.{Declarations}
-use Rattle.topos_session.specs.Variables.{functor_at, none}
+use Rattle.topos_session.specs.Functors.{functor_at, none}
 use Rattle.topos_session.specs.Declarations.{no_map, map_at, IsFunctorMap, AreLawful, IsKept, with_functor, with_presheaf, with_map, with_cells}
 use Rattle.topos_session.specs.Constructions.{between}
 use Rattle.topos_session.proofs.SessionSteps.{one_more, one_more_of}

@@ -1,12 +1,4 @@
 pub mod FormEquations
-pub mod TrivialCovers
-pub mod Restricted
-pub mod VariableElements
-pub mod PropositionalFormulas
-pub mod PropositionalForcing
-pub mod ForcedAlong
-pub mod TupleExtensions
-pub mod PushedTuples
 pub mod StatementForms
 pub mod DistinctNumbers
 pub mod Listings
@@ -18,10 +10,9 @@ pub mod LargeConstructions
 pub mod ShownFunctors
 pub mod MadeFunctors
 pub mod StatementAnswers
-pub mod PropositionalTypes
-pub mod CountedTypes
-pub mod MapsAside
 pub mod TrivialSites
+pub mod FormulaStatements
+pub mod FormulaAnswers
 pub mod SiteRefusals
 pub mod SessionSteps
 pub mod DeclaredMaps
@@ -30,5 +21,4 @@ pub mod StagedStatements
 pub mod RunSteps
 pub mod CellsSoFar
 pub mod NoTypes
-pub mod ShownTypes
 mod WorkedRuns

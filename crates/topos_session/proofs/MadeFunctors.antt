@@ -25,7 +25,7 @@ use Rattle.topos_session.specs.declared.stop.Stop.TheVariants as stop
 use Rattle.topos_session.specs.Declarations.{declared_map, no_map, map_at, IsFunctorMap, AreLawful, with_functor}
 use Rattle.topos_session.specs.Constructions.{is_construction, from, to, property, fit, IsMade, IsUnmade}
 use Rattle.topos_session.specs.Statements.{AnswersOver, Builds, refusal_over, IsAnsweredOver, IsOverBudget, by_answer, IsStoppedOver, store_stop}
-use Rattle.topos_session.specs.Variables.{AreFunctors}
+use Rattle.topos_session.specs.Functors.{AreFunctors}
 use Rattle.topos_session.proofs.SessionSteps.{one_more}
 use Rattle.topos_session.proofs.LawfulDeclarations.{all_of_one, all_of_two, to_newest, from_newest, lawful_functor}
 use Rattle.topos_session.proofs.NoTypes.{needs-construction, sealed_already, types_free}

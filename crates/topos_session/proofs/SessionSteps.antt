@@ -24,7 +24,7 @@ use Rattle.topos_model.specs.statements.Declarations.{category_of, site_of}
 use Rattle.sealed_world.specs.SealedWorlds.{CountedWorld, bare_world, world_cells}
 use Rattle.topos_session.specs.declared.declarations.FunctorMap.{FunctorMap}
 use Rattle.topos_session.specs.declared.declarations.Declarations.{Declarations}
-use Rattle.topos_session.specs.Variables.{AreFunctors, none}
+use Rattle.topos_session.specs.Functors.{AreFunctors, none}
 use Rattle.topos_session.specs.Declarations.{AreLawful, IsKept, none_declared}
 use Rattle.topos_session.specs.Progress.{types_by, AreCounted, IsUnderWay}
 use Rattle.topos_session.proofs.StatementForms.{declares_few}

@@ -1,5 +1,5 @@
 -- Why a document is refused before its statements, as far as the language is run.
-use Rattle.std.proofs.Common.{◌≡◌, ℕ, Bool, true, false, not, eqb, List, [], ◌∷◌, length, get_or, Some, None, refl, arith}
+use Rattle.std.proofs.Common.{◌≡◌, ℕ, Bool, true, false, not, eqb, List, [], ◌∷◌, length, get_or, Some, None, refl, ap, arith}
 use Rattle.std.specs.List.{range_with_len}
 use Rattle.std.proofs.lemmas.Bool.{and_parts, eqb-true}
 use Rattle.finite_lists.specs.Members.{In}
@@ -26,6 +26,8 @@ use Rattle.fin_category.specs.Faults.{IsFaultOf}
 use Rattle.fin_category.proofs.FilledCategories.{faultless_category}
 use Rattle.fin_category.proofs.ListedNumbers.{within_if}
 use Rattle.topos_session.specs.declared.stop.SiteStop.TheVariants.{Refused}
+use Rattle.topos_model.specs.topologies.Cover.{Site}
+use Rattle.topos_session.specs.Declarations.{HasNoCovers}
 use Rattle.topos_session.specs.Steps.{IsSiteStop, category_stop}
 use Rattle.topos_session.proofs.DocumentRanges.{ranges}
 use Rattle.topos_session.proofs.TrivialSites.{no_topology_fault}
@@ -55,6 +57,9 @@ unfolding site_of category_of
 site_is doc k trivial filled =
     let (dense, covers) = trivial_site doc.tops trivial in
     rw (filled, dense, covers) refl
+
+pub no_covers : (doc : Doc) → is_trivial doc.tops ≡ true → HasNoCovers (site_of doc 0)
+no_covers doc trivial = let e = site_is doc (filled_category doc.cat) trivial refl in (ap (λ (s : Site). s.dense) e, ap (λ (s : Site). s.families) e)
 
 -- the maximal sieves alone are a topology
 no_topologies_fault : (doc : Doc) → IsCategory (filled_category doc.cat) → is_trivial doc.tops ≡ true → topologies_fault doc ≡ None

@@ -1,6 +1,6 @@
 -- The refusals and the answers of the statements that are run are those of the run.
 use Rattle.std.proofs.Common.{◌≡◌, ℕ, ◌<◌, Bool, true, false, not, List, [], ◌∷◌, ◌++◌, map, reverse, length, Option, Some, None, refl, sym, ap, ◌∙◌, subst}
-use Rattle.std.proofs.lemmas.Bool.{true≢false}
+use Rattle.std.proofs.lemmas.Bool.{true≢false, and_parts, eqb-true}
 use Rattle.std.proofs.lemmas.List.{map-append}
 use Rattle.finite_lists.specs.First.{or_else, some_if}
 use Rattle.finite_lists.proofs.Lists.{map_same}
@@ -13,9 +13,9 @@ use Rattle.topos_model.specs.declared.raw.RawFunctor.{RawFunctor}
 use Rattle.topos_model.specs.declared.raw.RawMap.{RawMap}
 use Rattle.topos_model.specs.declared.doc.Doc.{Doc}
 use Rattle.topos_model.specs.declared.stmt.Stmt.{Stmt}
-use Rattle.topos_model.specs.declared.stmt.Stmt.TheVariants.{Presheaf, Map, Product, Coproduct, Equalizer, Coequalizer, Pullback, Pushout, Image, Empty, Hom, Show}
+use Rattle.topos_model.specs.declared.stmt.Stmt.TheVariants.{Presheaf, Map, Product, Coproduct, Equalizer, Coequalizer, Pullback, Pushout, Image, Empty, Hom, Show, Classify, Valid}
 use Rattle.topos_model.specs.declared.answer.Answer.{Answer}
-use Rattle.topos_model.specs.declared.answer.Answer.TheVariants.{Built, Shown}
+use Rattle.topos_model.specs.declared.answer.Answer.TheVariants.{Built, Shown, Classified, Verdict}
 use Rattle.topos_model.specs.declared.fault.Fault.{Fault}
 use Rattle.topos_model.specs.declared.fault.Fault.TheVariants.{NotBuilt, NotParallel}
 use Rattle.topos_model.specs.categories.Category.{Category}
@@ -31,21 +31,20 @@ use Rattle.topos_model.specs.statements.Needs.{under, terms_of, types_of}
 use Rattle.topos_model.specs.statements.Cells.{is_named, objects_of}
 use Rattle.topos_model.specs.statements.StatementFaults.{foreign_map_fault, typing_fault}
 use Rattle.topos_model.specs.formulas.Forcing.{shown}
-use Rattle.topos_model.specs.statements.Declarations.{Declared, DeclaredMap, category_of, map_ends, world_under, functor_at, domain_at, codomain_at, components_at}
-use Rattle.topos_model.specs.statements.Answers.{tuple_of, shape_of, map_shape, functor_map, Makes, Answers}
+use Rattle.formula_answers.specs.Formulas.{world_of}
+use Rattle.topos_model.specs.statements.Declarations.{Declared, DeclaredMap, category_of, site_of, map_ends, world_under, functor_at, domain_at, codomain_at, components_at}
+use Rattle.topos_model.specs.statements.Answers.{tuple_of, unforced, classified, shape_of, map_shape, functor_map, Makes, Answers}
 use Rattle.topos_model.specs.statements.Refusals.{foreign_refusal, term_refusal, ends_fit, refusal, late_refusal, IsRefusal}
 use Rattle.topos_session.specs.Ranges.{is_in_range, is_trivial}
-use Rattle.topos_session.specs.Built.{is_built}
-use Rattle.topos_session.specs.Variables.{presheaf_world}
+use Rattle.topos_session.specs.Built.{is_formula_built, is_built}
 use Rattle.topos_session.specs.declared.declarations.FunctorMap.{FunctorMap}
 use Rattle.topos_session.specs.declared.declarations.Declarations.{Declarations}
 use Rattle.topos_session.specs.Declarations.{declared_map, with_counted, AreLawful, no_map}
 use Rattle.topos_session.specs.Declarations as session
 use Rattle.topos_session.specs.Constructions.{is_construction, between, from, to, fit}
-use Rattle.topos_session.specs.Statements.{AnswersOver, Builds, refusal_over}
-use Rattle.topos_session.proofs.PropositionalTypes.{built_formula}
+use Rattle.topos_session.specs.Statements.{AnswersOver, Builds, formula_refusal, refusal_over}
 use Rattle.topos_session.proofs.MadeFunctors.{equalizer_range, coequalizer_range, pullback_range, pushout_range, image_range}
-use Rattle.topos_session.proofs.DeclaredMaps.{ends_are, domain_is, codomain_is, table_is, no_sheaf_asked, formula_accepted, formula_shown}
+use Rattle.topos_session.proofs.DeclaredMaps.{ends_are, domain_is, codomain_is, table_is, no_sheaf_asked, show_refusal, classify_refusal, valid_refusal, shown_here, unforced_here, classified_here}
 
 -- the refusals and the answers of the statements that are run
 module _ (doc : Doc) (trivial : is_trivial doc.tops ≡ true) (so : Declarations) (lawful : IsCategory (filled_category doc.cat)) (are : AreLawful (filled_category doc.cat) so)
@@ -95,17 +94,9 @@ module _ (doc : Doc) (trivial : is_trivial doc.tops ≡ true) (so : Declarations
   unfolding ends_fit is_named hidden-the_row-Ty-0 Carrier.hidden
   image_fit m z e j low = rw (ends_are doc trivial so types m low) refl
 
-  unbuilt_here : (under : ℕ) (ctx : Ctx) (φ : Term) → is_built (Show under ctx φ) ≡ true → refusal doc d (Show under ctx φ) ≡ None
-  unbuilt_here under ctx φ built =
-      let f = built_formula under ctx φ built in
-      subst (λ (j : ℕ). refusal doc d (Show j ctx φ) ≡ None) (sym f.first_topology) (formula_accepted doc trivial so types lawful are.functors ctx φ f.functors f.form)
-
-  accepted_if : (b : Bool) → b ≡ true → some_if (not b) NotBuilt ≡ None
-  accepted_if b e = rw e refl
-
   -- a statement that is run is refused in the run as it is here
   pub refusal_is : (stmt : Stmt) → Ranged stmt → is_built stmt ≡ true → refusal doc d stmt ≡ refusal_over k so stmt
-  unfolding refusal category_of ends_fit foreign_refusal foreign_map_fault terms_of typing_fault types_of is_construction is_built
+  unfolding refusal category_of ends_fit foreign_refusal foreign_map_fault terms_of typing_fault types_of is_construction is_built is_in_range
   refusal_is (Presheaf functor raw) range built = refl
   refusal_is (Map m x y raw) range built = refl
   refusal_is (Hom x y) range built = same_fit (Hom x y) (unrefused (Hom x y) refl refl refl) true refl
@@ -126,7 +117,9 @@ module _ (doc : Doc) (trivial : is_trivial doc.tops ≡ true) (so : Declarations
   refusal_is (Pushout m n z p q) range built =
       let w = pushout_range k.objects k.ends (length fs) (length so.maps) m n z p q range in
       same_fit _ (unrefused (Pushout m n z p q) refl refl refl) _ (pushout_fit m n w.first w.second z p q)
-  refusal_is (Show under ctx φ) range built = unbuilt_here under ctx φ built ∙ sym (accepted_if (is_built (Show under ctx φ)) built)
+  refusal_is (Show under ctx φ) range built = show_refusal doc trivial so types lawful are.functors under ctx φ range built
+  refusal_is (Classify under ctx φ) range built = classify_refusal doc trivial so types lawful are.functors under ctx φ range built
+  refusal_is (Valid under ctx φ) range built = valid_refusal doc trivial so types lawful are.functors under ctx φ range built
   refusal_is _ range built = cc
 
   -- a statement that is run has its refusal for itself, and none that waits
@@ -144,6 +137,8 @@ module _ (doc : Doc) (trivial : is_trivial doc.tops ≡ true) (so : Declarations
   as_refusal (Empty z) o built e = sym e
   as_refusal (Hom x y) o built e = sym e
   as_refusal (Show under ctx φ) o built e = sym e
+  as_refusal (Classify under ctx φ) o built e = sym e
+  as_refusal (Valid under ctx φ) o built e = sym e
   as_refusal _ o built e = cc
 
   pub no_late_refusal : (stmt : Stmt) (types : List (ℕ × List Ty)) → is_built stmt ≡ true → late_refusal doc (with_counted so types) stmt ≡ None
@@ -160,15 +155,17 @@ module _ (doc : Doc) (trivial : is_trivial doc.tops ≡ true) (so : Declarations
   no_late_refusal (Empty z) types built = refl
   no_late_refusal (Hom x y) types built = refl
   no_late_refusal (Show under ctx φ) types built = refl
+  no_late_refusal (Classify under ctx φ) types built = refl
+  no_late_refusal (Valid under ctx φ) types built = refl
   no_late_refusal _ types built = cc
 
-  built_if : (b : Bool) → some_if (not b) NotBuilt ≡ None → b ≡ true
-  built_if true e = refl
-  built_if false e = cc
+  built_if : (b : Bool) (o : Option Fault) → or_else (some_if (not b) NotBuilt) o ≡ None → b ≡ true
+  built_if true o e = refl
+  built_if false o e = cc
 
   -- what is accepted is run, and what is not run is refused as not built
   pub built_of : (stmt : Stmt) → refusal_over k so stmt ≡ None → is_built stmt ≡ true
-  unfolding is_built is_construction
+  unfolding is_built is_construction formula_refusal
   built_of (Presheaf functor raw) accepted = refl
   built_of (Map m x y raw) accepted = refl
   built_of (Product x y z p q) accepted = refl
@@ -180,11 +177,13 @@ module _ (doc : Doc) (trivial : is_trivial doc.tops ≡ true) (so : Declarations
   built_of (Image m z e j) accepted = refl
   built_of (Empty z) accepted = refl
   built_of (Hom x y) accepted = refl
-  built_of (Show under ctx φ) accepted = built_if _ accepted
+  built_of (Show under ctx φ) accepted = built_if _ _ accepted
+  built_of (Classify under ctx φ) accepted = built_if _ _ accepted
+  built_of (Valid under ctx φ) accepted = built_if _ _ accepted
   built_of _ accepted = cc
 
   pub not_built_of : (stmt : Stmt) → is_built stmt ≡ false → refusal_over k so stmt ≡ Some NotBuilt
-  unfolding is_built is_construction
+  unfolding is_built is_construction formula_refusal
   not_built_of (Presheaf functor raw) out = cc
   not_built_of (Map m x y raw) out = cc
   not_built_of (Product x y z p q) out = cc
@@ -197,6 +196,8 @@ module _ (doc : Doc) (trivial : is_trivial doc.tops ≡ true) (so : Declarations
   not_built_of (Empty z) out = cc
   not_built_of (Hom x y) out = cc
   not_built_of (Show under ctx φ) out = rw out refl
+  not_built_of (Classify under ctx φ) out = rw out refl
+  not_built_of (Valid under ctx φ) out = rw out refl
   not_built_of _ out = refl
 
   -- a functor that is made with its maps
@@ -236,16 +237,32 @@ module _ (doc : Doc) (trivial : is_trivial doc.tops ≡ true) (so : Declarations
     unfolding category_of
     hom_answers x y over = (over.0, ap (λ (so : Declarations). with_counted so types) over.1)
 
-    show_answers : (under : ℕ) (ctx : Ctx) (φ : Term) → is_built (Show under ctx φ) ≡ true → AnswersOver k so (Show under ctx φ) answer after → Answers doc d (Show under ctx φ) answer next
-    unfolding category_of
-    show_answers under ctx φ built over =
-        let f = built_formula under ctx φ built in (
-          over.0
-              ∙ ap (Shown ctx) (map_same (λ c. map tuple_of (shown (presheaf_world k fs) (reverse ctx.types) φ c)) (λ c. map tuple_of (shown (world_under doc d 0) (reverse ctx.types) φ c)) (objects_of k)
-              (λ c i. ap (map tuple_of) (formula_shown doc trivial so types lawful are.functors ctx φ f.functors f.form c)))
-              ∙ ap (λ (j : ℕ). Shown ctx (map (λ c. map tuple_of (shown (world_under doc d j) (reverse ctx.types) φ c)) (objects_of k))) (sym f.first_topology),
-          ap (λ (so : Declarations). with_counted so types) over.1,
-        )
+    show_answers : (under : ℕ) (ctx : Ctx) (φ : Term) → Ranged (Show under ctx φ) → is_built (Show under ctx φ) ≡ true → so.world.site ≡ site_of doc 0 → AnswersOver k so (Show under ctx φ) answer after → Answers doc d (Show under ctx φ) answer next
+    unfolding category_of is_built is_in_range
+    show_answers under ctx φ range built site over = (
+      over.0
+          ∙ ap (Shown ctx) (map_same (λ c. map tuple_of (shown (world_of so.world) (reverse ctx.types) φ c)) (λ c. map tuple_of (shown (world_under doc d under) (reverse ctx.types) φ c)) (objects_of k)
+          (λ c i. ap (map tuple_of) (shown_here doc trivial so types lawful are.functors under ctx φ range built site c))),
+      ap (λ (so : Declarations). with_counted so types) over.1,
+    )
+
+    classify_answers : (under : ℕ) (ctx : Ctx) (φ : Term) → Ranged (Classify under ctx φ) → is_built (Classify under ctx φ) ≡ true → so.world.site ≡ site_of doc 0 → AnswersOver k so (Classify under ctx φ) answer after → Answers doc d (Classify under ctx φ) answer next
+    unfolding category_of is_built is_in_range
+    classify_answers under ctx φ range built site over = (
+      over.0
+          ∙ ap (Classified ctx) (map_same (classified (world_of so.world) (reverse ctx.types) φ) (classified (world_under doc d under) (reverse ctx.types) φ) (objects_of k)
+          (λ c i. (classified_here doc trivial so types lawful are.functors under ctx φ range built site c))),
+      ap (λ (so : Declarations). with_counted so types) over.1,
+    )
+
+    valid_answers : (under : ℕ) (ctx : Ctx) (φ : Term) → Ranged (Valid under ctx φ) → is_built (Valid under ctx φ) ≡ true → so.world.site ≡ site_of doc 0 → AnswersOver k so (Valid under ctx φ) answer after → Answers doc d (Valid under ctx φ) answer next
+    unfolding category_of is_built is_in_range
+    valid_answers under ctx φ range built site over = (
+      over.0
+          ∙ ap (Verdict ctx) (map_same (λ c. map tuple_of (unforced (world_of so.world) (reverse ctx.types) φ c)) (λ c. map tuple_of (unforced (world_under doc d under) (reverse ctx.types) φ c)) (objects_of k)
+          (λ c i. ap (map tuple_of) (unforced_here doc trivial so types lawful are.functors under ctx φ range built site c))),
+      ap (λ (so : Declarations). with_counted so types) over.1,
+    )
 
     product_answers : (x y z p q : ℕ) → Builds k so (Product x y z p q) answer after → Answers doc d (Product x y z p q) answer next
     unfolding category_of
@@ -364,30 +381,34 @@ module _ (doc : Doc) (trivial : is_trivial doc.tops ≡ true) (so : Declarations
             )
 
     -- a statement that is run answers in the run what it answers here
-    pub answers_are : (stmt : Stmt) → Ranged stmt → is_built stmt ≡ true → AnswersOver k so stmt answer after → Answers doc d stmt answer next
+    pub answers_are : (stmt : Stmt) → Ranged stmt → is_built stmt ≡ true → so.world.site ≡ site_of doc 0 → AnswersOver k so stmt answer after → Answers doc d stmt answer next
     unfolding is_built
-    answers_are (Presheaf functor raw) range built over = presheaf_answers functor raw over
-    answers_are (Map m x y raw) range built over = map_answers m x y raw over
-    answers_are (Hom x y) range built over = hom_answers x y over
-    answers_are (Show under ctx φ) range built over = show_answers under ctx φ built over
-    answers_are (Product x y z p q) range built b = product_answers x y z p q b
-    answers_are (Coproduct x y z p q) range built b = coproduct_answers x y z p q b
-    answers_are (Empty z) range built b = empty_answers z b
-    answers_are (Image m z p q) range built b = image_answers m (image_range k.objects k.ends (length fs) (length so.maps) m z p q range).1 z p q b
-    answers_are (Equalizer m n z i) range built b =
+    answers_are (Presheaf functor raw) range built site over = presheaf_answers functor raw over
+    answers_are (Map m x y raw) range built site over = map_answers m x y raw over
+    answers_are (Hom x y) range built site over = hom_answers x y over
+    answers_are (Show under ctx φ) range built site over = show_answers under ctx φ range built site over
+    answers_are (Classify under ctx φ) range built site over = classify_answers under ctx φ range built site over
+    answers_are (Valid under ctx φ) range built site over = valid_answers under ctx φ range built site over
+    answers_are (Product x y z p q) range built site b = product_answers x y z p q b
+    answers_are (Coproduct x y z p q) range built site b = coproduct_answers x y z p q b
+    answers_are (Empty z) range built site b = empty_answers z b
+    answers_are (Image m z p q) range built site b = image_answers m (image_range k.objects k.ends (length fs) (length so.maps) m z p q range).1 z p q b
+    answers_are (Equalizer m n z i) range built site b =
         let w = equalizer_range k.objects k.ends (length fs) (length so.maps) m n z i range in equalizer_answers m w.first n w.second z i b
-    answers_are (Coequalizer m n z i) range built b =
+    answers_are (Coequalizer m n z i) range built site b =
         let w = coequalizer_range k.objects k.ends (length fs) (length so.maps) m n z i range in coequalizer_answers m w.first n w.second z i b
-    answers_are (Pullback m n z p q) range built b =
+    answers_are (Pullback m n z p q) range built site b =
         let w = pullback_range k.objects k.ends (length fs) (length so.maps) m n z p q range in pullback_answers m w.first n w.second z p q b
-    answers_are (Pushout m n z p q) range built b =
+    answers_are (Pushout m n z p q) range built site b =
         let w = pushout_range k.objects k.ends (length fs) (length so.maps) m n z p q range in pushout_answers m w.first n w.second z p q b
-    answers_are _ range built over = absurd (true≢false (sym built))
+    answers_are _ range built site over = absurd (true≢false (sym built))
 
 -- a statement that is run is under the first topology
 pub built_under : (stmt : Stmt) → is_built stmt ≡ true → under stmt ≡ 0
-unfolding is_built under
-built_under (Show j ctx φ) built = (built_formula j ctx φ built).first_topology
+unfolding is_built is_formula_built under
+built_under (Show j ctx φ) built = eqb-true j 0 (and_parts _ _ built).0
+built_under (Classify j ctx φ) built = eqb-true j 0 (and_parts _ _ built).0
+built_under (Valid j ctx φ) built = eqb-true j 0 (and_parts _ _ built).0
 built_under (Presheaf functor raw) built = refl
 built_under (Map m x y raw) built = refl
 built_under (Product x y z p q) built = refl

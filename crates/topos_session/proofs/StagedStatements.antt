@@ -75,7 +75,7 @@ module _ (doc : Doc) (so : Declarations) (i : ℕ) (way : IsUnderWay doc so i tr
     first = built_under stmt built
 
     with_its : with_types here stmt ≡ declared_by doc so (i + 1)
-    with_its = next_types doc so i stmt next built
+    with_its = next_types doc so i stmt k.objects k.ends (length so.world.functors) (length so.maps) next range built
 
     -- the cells with the types of the statement
     types_cost : cells_so_far doc (with_types here stmt) ≡ cells_with so.world (needs [] stmt)
@@ -109,7 +109,7 @@ module _ (doc : Doc) (so : Declarations) (i : ℕ) (way : IsUnderWay doc so i tr
       answers : (answer : Answer) (after : Declarations) → AnswersOver k mid stmt answer after → Answers doc (with_types here stmt) stmt answer (declared_by doc after (i + 1))
       answers answer after over =
           subst (λ (d : Declared). Answers doc d stmt answer (declared_by doc after (i + 1))) (mid_same ∙ sym with_its)
-          (answers_are doc way.covers mid lawful mid_lawful behind answer after stmt mid_range built over)
+          (answers_are doc way.covers mid lawful mid_lawful behind answer after stmt mid_range built (ap (λ (w : CountedWorld). w.site) sealed.types.grown.is ∙ way.site) over)
 
       -- behind the statement exactly its types and those before are sealed
       pub counted_after : (after : Declarations) → after.world.types ≡ mid.world.types → AreCounted (types_under 0 behind) after.world

@@ -7,7 +7,7 @@ use Rattle.topos_model.specs.declared.raw.RawMap.{RawMap}
 use Rattle.topos_model.specs.declared.context.Ctx.{Ctx}
 use Rattle.topos_model.specs.declared.term.Term.{Term}
 use Rattle.topos_model.specs.declared.stmt.Stmt.{Stmt}
-use Rattle.topos_model.specs.declared.stmt.Stmt.TheVariants.{Presheaf, Map, Product, Coproduct, Equalizer, Coequalizer, Pullback, Pushout, Image, Empty, Hom, Show}
+use Rattle.topos_model.specs.declared.stmt.Stmt.TheVariants.{Presheaf, Map, Product, Coproduct, Equalizer, Coequalizer, Pullback, Pushout, Image, Empty, Hom, Show, Classify, Valid}
 use Rattle.topos_model.specs.declared.answer.Tuple.{Tuple}
 use Rattle.topos_model.specs.declared.answer.Answer.TheVariants.{Quiet, Maps, Shown}
 use Rattle.topos_model.specs.declared.fault.Fault.TheVariants.{NotBuilt}
@@ -24,7 +24,7 @@ use Rattle.finite_lists.specs.Members.{In}
 use Rattle.topos_model.specs.declared.ty.Ty.{Ty}
 use Rattle.topos_model.specs.statements.Needs.{named, needs}
 use Rattle.topos_model.specs.statements.Cells.{is_named, hom_cells}
-use Rattle.topos_session.specs.Ranges.{is_propositional, declares}
+use Rattle.topos_session.specs.Ranges.{declares}
 use Rattle.topos_session.specs.Built.{is_built}
 use Rattle.topos_model.specs.statements.Answers.{tuple_of, map_shape, functor_map}
 use Rattle.presheaf_core.specs.declared.fault.FunctorFault.{FunctorFault}
@@ -42,7 +42,7 @@ use Rattle.topos_session.specs.declared.declarations.Declarations.{Declarations}
 use Rattle.topos_session.specs.declared.stop.Stop.{Stop}
 use Rattle.topos_session.specs.declared.stop.Stop.TheVariants as stop
 use Rattle.topos_session.specs.declared.homs.Hom.{Hom as Listed}
-use Rattle.topos_session.specs.Variables.{functor_at, presheaf_world}
+use Rattle.topos_session.specs.Functors.{functor_at}
 use Rattle.topos_session.specs.Declarations.{AreLawful, with_presheaf, with_map, with_cells}
 use Rattle.topos_session.specs.Constructions.{is_construction, between}
 use Rattle.topos_session.specs.Homs.{IsHom, IsUnlisted}
@@ -50,8 +50,6 @@ use Rattle.topos_session.specs.Statements.{refusal_over, IsAnsweredOver, IsStopp
 use Rattle.topos_session.proofs.StatementForms.{declares-Presheaf, declares-Map, declares-Hom, declares-Show}
 use Rattle.topos_session.proofs.LawfulDeclarations.{lawful_presheaf, lawful_map, lawful_cells, lawful_sealed}
 use Rattle.topos_session.proofs.NoTypes.{needs-Presheaf, needs-Map, needs-Hom, sealed_already, types_free}
-use Rattle.topos_session.proofs.ShownTypes.{shown_needs, needs_shown, shown_needed, statement_needs}
-use Rattle.topos_session.proofs.PropositionalTypes.{IsBuiltFormula, built_formula, named_reversed}
 use Rattle.sealed_world.proofs.Growing.{not_grown, grown_more, no_more, no_less}
 
 -- the counts of what a statement declares
@@ -164,70 +162,6 @@ module _ (k : Category) (so : Declarations) where
   map_refused number x y raw (map.NotNatural f a) found = found
   map_refused number x y raw map.NoMemory found = tt
 
-  -- a formula is shown, and nothing is declared
-  abbrev pub shown_form : ℕ → Ctx → Term → Bool
-  shown_form under ctx φ = eqb under 0 && list_all is_named ctx.types && is_propositional (map named (reverse ctx.types)) φ
-
-  module _ (under : ℕ) (ctx : Ctx) (φ : Term) (form : shown_form under ctx φ ≡ true) where
-    abbrev Γ : List Ty
-    Γ = reverse ctx.types
-
-    accepted_here : refusal_over k so (Show under ctx φ) ≡ None
-    unfolding is_built
-    accepted_here = rw form refl
-
-    built : IsBuiltFormula under ctx φ
-    unfolding is_built
-    built = built_formula under ctx φ form
-
-    -- what it counts are truth values and the product of its context
-    counts_no_more : (T : Ty) → In (needs [] (Show under ctx φ)) T → is_named T ≡ false → In (shown_needs Γ) T
-    counts_no_more T i u = needs_shown Γ (named_reversed ctx.types built.functors) φ built.form T (subst (λ l. In l T) (statement_needs under ctx φ) i) u
-
-    counts_no_less : (T : Ty) → In (shown_needs Γ) T → In (needs [] (Show under ctx φ)) T
-    counts_no_less T i = subst (λ l. In l T) (sym (statement_needs under ctx φ)) (shown_needed Γ (named_reversed ctx.types built.functors) φ built.form T i)
-
-    same_cost : cells_with so.world (needs [] (Show under ctx φ)) ≡ cells_with so.world (shown_needs Γ)
-    same_cost =
-        let w = so.world in
-        let more = no_less [] (shown_needs Γ) (needs [] (Show under ctx φ)) w w (not_grown [] w) (λ T i u. inr (counts_no_more T i u)) in
-        let less = no_more [] (shown_needs Γ) (needs [] (Show under ctx φ)) w w (not_grown [] w) (λ T n. absurd n) counts_no_less in
-        omega (arith, more, less)
-
-    pub formula_shown : (written : Ctx) (stages : List (List Tuple)) (mid : Declarations) → written ≡ ctx
-        → stages ≡ map (λ c. map tuple_of (shown (presheaf_world k mid.world.functors) (reverse ctx.types) φ c)) (range_with_len 0 k.objects)
-        → mid.maps ≡ so.maps → IsGrownBy (shown_needs Γ) so.world mid.world → (so.world.budget < cells_with so.world (shown_needs Γ) → ⊥) → world_cells mid.world ≤ so.world.budget → AreLawful k so
-        → IsAnsweredOver k so (Show under ctx φ) (Shown written stages) mid
-    formula_shown written stages mid same listed maps grown fit within lawful =
-        let functors : mid.world.functors ≡ so.world.functors = ap (λ (w : CountedWorld). w.functors) grown.grown.is in
-        record {
-          accepted = accepted_here;
-          mid = mid;
-          sealed = record {
-            maps = maps;
-            types = record { grown = grown_more (shown_needs Γ) so.world (needs [] (Show under ctx φ)) mid.world counts_no_less grown.grown; all = λ T i u. grown.all T (counts_no_more T i u) u };
-          };
-          types_fit = not_over same_cost fit;
-          answers = (rw (same, listed) refl, refl);
-          within = within;
-          lawful = lawful_sealed k so lawful mid functors maps;
-          declared = declared_counts (Show under ctx φ) 0 0 mid (declares-Show under ctx φ) (ap length functors ∙ omega arith) (ap length maps ∙ omega arith);
-          functors = let e = ap length functors in omega (arith, e);
-          maps = let e = ap length maps in omega (arith, e);
-          kept = (ap (λ (w : CountedWorld). w.site) grown.grown.is, refl, ap (λ (w : CountedWorld). w.budget) grown.grown.is);
-        }
-      where
-        not_over : {a b c : ℕ} → a ≡ b → (c < b → ⊥) → a ≤ c
-        not_over {a} {b} {c} e h = elim (cases_lt c b) [ inl over ↦ absurd (h over) | inr fits ↦ omega (arith, fits, e) ]
-
-    pub formula_unsealed : (fault : StoreFault) → IsOverExactly {A = Unit {0}} (Err fault) (so.world.budget < cells_with so.world (shown_needs Γ)) → IsStoppedOver k so (Show under ctx φ) (store_stop fault)
-    formula_unsealed Over over = by_types accepted_here (omega (arith, over, same_cost))
-    formula_unsealed OutOfMemory over = tt
-
-  pub formula_refused : (under : ℕ) (ctx : Ctx) (φ : Term) → shown_form under ctx φ ≡ false → refusal_over k so (Show under ctx φ) ≡ Some NotBuilt
-  unfolding is_built
-  formula_refused under ctx φ form = rw form refl
-
   -- every other statement is not built
   pub refused_other : (stmt : Stmt)
       → ((functor : ℕ) (raw : RawFunctor) → stmt ≡ Presheaf functor raw → ⊥)
@@ -242,18 +176,22 @@ module _ (k : Category) (so : Declarations) where
       → ((z : ℕ) → stmt ≡ Empty z → ⊥)
       → ((x y : ℕ) → stmt ≡ Hom x y → ⊥)
       → ((under : ℕ) (ctx : Ctx) (φ : Term) → stmt ≡ Show under ctx φ → ⊥)
+      → ((under : ℕ) (ctx : Ctx) (φ : Term) → stmt ≡ Classify under ctx φ → ⊥)
+      → ((under : ℕ) (ctx : Ctx) (φ : Term) → stmt ≡ Valid under ctx φ → ⊥)
       → refusal_over k so stmt ≡ Some NotBuilt
   unfolding is_construction
-  refused_other (Presheaf functor raw) h _ _ _ _ _ _ _ _ _ _ _ = absurd (h functor raw refl)
-  refused_other (Map m x y raw) _ h _ _ _ _ _ _ _ _ _ _ = absurd (h m x y raw refl)
-  refused_other (Product x y z p q) _ _ h _ _ _ _ _ _ _ _ _ = absurd (h x y z p q refl)
-  refused_other (Coproduct x y z p q) _ _ _ h _ _ _ _ _ _ _ _ = absurd (h x y z p q refl)
-  refused_other (Equalizer m n z i) _ _ _ _ h _ _ _ _ _ _ _ = absurd (h m n z i refl)
-  refused_other (Coequalizer m n z q) _ _ _ _ _ h _ _ _ _ _ _ = absurd (h m n z q refl)
-  refused_other (Pullback m n z p q) _ _ _ _ _ _ h _ _ _ _ _ = absurd (h m n z p q refl)
-  refused_other (Pushout m n z i j) _ _ _ _ _ _ _ h _ _ _ _ = absurd (h m n z i j refl)
-  refused_other (Image m z e j) _ _ _ _ _ _ _ _ h _ _ _ = absurd (h m z e j refl)
-  refused_other (Empty z) _ _ _ _ _ _ _ _ _ h _ _ = absurd (h z refl)
-  refused_other (Hom x y) _ _ _ _ _ _ _ _ _ _ h _ = absurd (h x y refl)
-  refused_other (Show under ctx φ) _ _ _ _ _ _ _ _ _ _ _ h = absurd (h under ctx φ refl)
-  refused_other _ _ _ _ _ _ _ _ _ _ _ _ _ = refl
+  refused_other (Presheaf functor raw) h _ _ _ _ _ _ _ _ _ _ _ _ _ = absurd (h functor raw refl)
+  refused_other (Map m x y raw) _ h _ _ _ _ _ _ _ _ _ _ _ _ = absurd (h m x y raw refl)
+  refused_other (Product x y z p q) _ _ h _ _ _ _ _ _ _ _ _ _ _ = absurd (h x y z p q refl)
+  refused_other (Coproduct x y z p q) _ _ _ h _ _ _ _ _ _ _ _ _ _ = absurd (h x y z p q refl)
+  refused_other (Equalizer m n z i) _ _ _ _ h _ _ _ _ _ _ _ _ _ = absurd (h m n z i refl)
+  refused_other (Coequalizer m n z q) _ _ _ _ _ h _ _ _ _ _ _ _ _ = absurd (h m n z q refl)
+  refused_other (Pullback m n z p q) _ _ _ _ _ _ h _ _ _ _ _ _ _ = absurd (h m n z p q refl)
+  refused_other (Pushout m n z i j) _ _ _ _ _ _ _ h _ _ _ _ _ _ = absurd (h m n z i j refl)
+  refused_other (Image m z e j) _ _ _ _ _ _ _ _ h _ _ _ _ _ = absurd (h m z e j refl)
+  refused_other (Empty z) _ _ _ _ _ _ _ _ _ h _ _ _ _ = absurd (h z refl)
+  refused_other (Hom x y) _ _ _ _ _ _ _ _ _ _ h _ _ _ = absurd (h x y refl)
+  refused_other (Show under ctx φ) _ _ _ _ _ _ _ _ _ _ _ h _ _ = absurd (h under ctx φ refl)
+  refused_other (Classify under ctx φ) _ _ _ _ _ _ _ _ _ _ _ _ h _ = absurd (h under ctx φ refl)
+  refused_other (Valid under ctx φ) _ _ _ _ _ _ _ _ _ _ _ _ _ h = absurd (h under ctx φ refl)
+  refused_other _ _ _ _ _ _ _ _ _ _ _ _ _ _ _ = refl

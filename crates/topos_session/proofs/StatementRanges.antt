@@ -14,17 +14,16 @@ use Rattle.topos_model.specs.declared.ty.Ty.TheBlock.{hidden-the_row-Ty-0}
 use Rattle.topos_model.specs.declared.context.Ctx.{Ctx}
 use Rattle.topos_model.specs.declared.term.Term.{Term}
 use Rattle.topos_model.specs.declared.stmt.Stmt.{Stmt}
-use Rattle.topos_model.specs.declared.stmt.Stmt.TheVariants.{Presheaf, Map, Hom, Show}
+use Rattle.topos_model.specs.declared.stmt.Stmt.TheVariants.{Presheaf, Map, Hom, Show, Classify, Valid}
 use Rattle.topos_model.specs.categories.Category.{Category, dom, cod}
 use Rattle.topos_model.specs.presheaves.PresheafFaults.{IsPresheafListing}
 use Rattle.topos_model.specs.presheaves.MapFaults.{has_image, IsMapListing}
 use Rattle.topos_model.specs.statements.Needs.{named}
 use Rattle.topos_model.specs.statements.Cells.{is_named}
 use Rattle.topos_model.specs.statements.Form.{along_fits, is_presheaf_listing, is_map_listing}
-use Rattle.topos_session.specs.Ranges.{is_functor_name, is_propositional, is_known, is_in_range}
+use Rattle.topos_session.specs.Ranges.{is_formula_in_range, is_in_range}
 use Rattle.topos_session.proofs.DistinctNumbers.{distinct_numbers}
-use Rattle.topos_session.proofs.ForcedAlong.{In-reverse}
-use Rattle.topos_session.proofs.StatementForms.{range-Presheaf, range-Map, range-Hom, range-Show}
+use Rattle.topos_session.proofs.StatementForms.{range-Presheaf, range-Map, range-Hom, range-Show, range-Classify, range-Valid}
 
 -- a listed presheaf has sizes for all objects, and restrictions of elements to elements
 along_in_range : (k : Category) (raw : RawFunctor) (a : RawAlong) → along_fits k.objects k.ends raw.sizes a ≡ true →
@@ -101,30 +100,11 @@ hom_range k n l stmt x y is range =
     let (low, high) = and_parts _ _ (sym (range-Hom k.objects k.ends n l x y) ∙ ap (is_in_range k.objects k.ends n l) (sym is) ∙ range) in
     (ltb-true _ _ low, ltb-true _ _ high)
 
--- types that name functors, in range, name functors that are declared
-names_declared : (n : ℕ) (T : Ty) → is_known n T ≡ true → is_named T ≡ true → is_functor_name n T ≡ true
-unfolding is_known is_named is_functor_name hidden-the_row-Ty-0 Carrier.hidden
-names_declared n (Base m) known named = known
-names_declared n _ known named = cc
+pub formula_range : (objects : ℕ) (ends : List (ℕ × ℕ)) (n l : ℕ) (stmt : Stmt) (under : ℕ) (ctx : Ctx) (φ : Term) → stmt ≡ Show under ctx φ → is_in_range objects ends n l stmt ≡ true → is_formula_in_range n l ctx φ ≡ true
+formula_range objects ends n l stmt under ctx φ is range = sym (range-Show objects ends n l under ctx φ) ∙ ap (is_in_range objects ends n l) (sym is) ∙ range
 
-pub all_declared : (n : ℕ) (types : List Ty) → list_all (is_known n) types ≡ true → list_all is_named types ≡ true → list_all (is_functor_name n) types ≡ true
-all_declared n types known named =
-    each_all (is_functor_name n) types (λ T i. names_declared n T (all_each (is_known n) types T known i) (all_each is_named types T named i))
+pub classified_range : (objects : ℕ) (ends : List (ℕ × ℕ)) (n l : ℕ) (stmt : Stmt) (under : ℕ) (ctx : Ctx) (φ : Term) → stmt ≡ Classify under ctx φ → is_in_range objects ends n l stmt ≡ true → is_formula_in_range n l ctx φ ≡ true
+classified_range objects ends n l stmt under ctx φ is range = sym (range-Classify objects ends n l under ctx φ) ∙ ap (is_in_range objects ends n l) (sym is) ∙ range
 
-known_below : (n m : ℕ) → is_known n (Base m) ≡ true → m < n
-unfolding is_known hidden-the_row-Ty-0 Carrier.hidden
-known_below n m h = ltb-true m n h
-
-pub known_names : (n : ℕ) (types : List Ty) → list_all (is_known n) types ≡ true → (m : ℕ) → In (reverse types) (Base m) → m < n
-known_names n types known m i = known_below n m (all_each (is_known n) types (Base m) known (In-reverse types (Base m) i))
-
-pub known_types : (objects : ℕ) (ends : List (ℕ × ℕ)) (n l : ℕ) (stmt : Stmt) (under : ℕ) (ctx : Ctx) (φ : Term) → stmt ≡ Show under ctx φ → is_in_range objects ends n l stmt ≡ true →
-    list_all (is_known n) ctx.types ≡ true
-known_types objects ends n l stmt under ctx φ is range = sym (range-Show objects ends n l under ctx φ) ∙ ap (is_in_range objects ends n l) (sym is) ∙ range
-
--- whether a formula is shown
-abbrev pub shown_form : ℕ → Ctx → Term → Bool
-shown_form under ctx φ = eqb under 0 && list_all is_named ctx.types && is_propositional (map named (reverse ctx.types)) φ
-
-pub shown_parts : (under : ℕ) (ctx : Ctx) (φ : Term) → shown_form under ctx φ ≡ true → (list_all is_named ctx.types ≡ true) × (is_propositional (map named (reverse ctx.types)) φ ≡ true)
-shown_parts under ctx φ form = let (head, formula) = and_parts _ _ form in ((and_parts _ _ head).1, formula)
+pub judged_range : (objects : ℕ) (ends : List (ℕ × ℕ)) (n l : ℕ) (stmt : Stmt) (under : ℕ) (ctx : Ctx) (φ : Term) → stmt ≡ Valid under ctx φ → is_in_range objects ends n l stmt ≡ true → is_formula_in_range n l ctx φ ≡ true
+judged_range objects ends n l stmt under ctx φ is range = sym (range-Valid objects ends n l under ctx φ) ∙ ap (is_in_range objects ends n l) (sym is) ∙ range

@@ -1,14 +1,16 @@
 -- How much of the language this program runs.
-use Rattle.std.specs.Prelude.{Bool, true, false, ◌&&◌, eqb, List, map, reverse}
-use Rattle.std.specs.List.{list_all}
+use Rattle.std.specs.Prelude.{ℕ, Bool, true, false, ◌&&◌, eqb}
+use Rattle.topos_model.specs.declared.term.Term.{Term}
 use Rattle.topos_model.specs.declared.stmt.Stmt.{Stmt}
-use Rattle.topos_model.specs.declared.stmt.Stmt.TheVariants.{Presheaf, Map, Product, Coproduct, Equalizer, Coequalizer, Pullback, Pushout, Image, Empty, Hom, Show}
-use Rattle.topos_model.specs.statements.Cells.{is_named}
-use Rattle.topos_model.specs.statements.Needs.{named}
-use Rattle.topos_session.specs.Ranges.{is_trivial, is_propositional}
+use Rattle.topos_model.specs.declared.stmt.Stmt.TheVariants.{Presheaf, Map, Product, Coproduct, Equalizer, Coequalizer, Pullback, Pushout, Image, Empty, Hom, Show, Classify, Valid}
 use Rattle.topos_model.specs.statements.Run.{Extent}
+use Rattle.topos_session.specs.Ranges.{is_trivial, applies_none}
 
--- presheaves, natural maps and their lists, limits, images and colimits, and propositional formulas over functors
+-- under the first topology, and without maps
+unfoldable pub is_formula_built : ℕ → Term → Bool
+is_formula_built under φ = eqb under 0 && applies_none φ
+
+-- presheaves, natural maps and their lists, limits, images and colimits, and formulas that apply no map
 unfoldable pub is_built : Stmt → Bool
 is_built (Presheaf functor raw) = true
 is_built (Map m x y raw) = true
@@ -21,7 +23,9 @@ is_built (Pushout m n z i j) = true
 is_built (Image m z e j) = true
 is_built (Empty z) = true
 is_built (Hom x y) = true
-is_built (Show under ctx φ) = eqb under 0 && list_all is_named ctx.types && is_propositional (map named (reverse ctx.types)) φ
+is_built (Show under ctx φ) = is_formula_built under φ
+is_built (Classify under ctx φ) = is_formula_built under φ
+is_built (Valid under ctx φ) = is_formula_built under φ
 is_built _ = false
 
 -- no covers but the maximal ones

@@ -14,7 +14,7 @@ use Rattle.topos_session.specs.declared.stop.Stop.TheVariants as stop
 use Rattle.topos_session.specs.declared.declarations.FunctorMap.{FunctorMap}
 use Rattle.topos_session.specs.declared.declarations.Declarations.{Declarations}
 use Rattle.topos_session.specs.declared.constructions.Construction.{Construction}
-use Rattle.topos_session.specs.Variables.{functor_at}
+use Rattle.topos_session.specs.Functors.{functor_at}
 use Rattle.topos_session.specs.Declarations.{map_at}
 
 -- whether a statement makes a functor by its universal property

@@ -1,8 +1,7 @@
 pub mod Ranges
 pub mod Built
 pub mod StagedRun
-pub mod Extensions
-pub mod Variables
+pub mod Functors
 pub mod Declarations
 pub mod Constructions
 pub mod Homs

@@ -21,7 +21,7 @@ pub record Progress : Type 0 where
   pub answered : ℕ
   pub live : Bool
 
--- the types that the first n statements count, where all of them are run; these do not depend on maps
+-- the types that the first n statements count, where all of them are run: no formula applies a map
 abbrev pub types_by : Doc → ℕ → List (ℕ × List Ty)
 types_by doc n = map (λ stmt. (under stmt, needs [] stmt)) (take n doc.stmts)
 

@@ -1,42 +1,35 @@
--- Documents whose numbers are in range, as far as the statements need it that are run, and the forms of formulas that are run.
-use Rattle.std.specs.Prelude.{ℕ, ◌+◌, Bool, true, false, ◌&&◌, not, List, [], ◌∷◌, length, eqb, ltb, leb, slice_get, Option, Some, None}
+-- Documents whose numbers are in range, as far as the statements need it that are run.
+use Rattle.std.specs.Prelude.{ℕ, ◌+◌, Bool, true, false, ◌&&◌, not, List, [], ◌∷◌, length, eqb, ltb, leb, Option, Some, None}
 use Rattle.std.specs.List.{list_all}
-use Rattle.topos_model.specs.declared.ty.Ty.{Ty, Base}
-use Rattle.topos_model.specs.declared.term.Term.{Term, Var, Eq', Truth, Falsity, And', Implies', more_of-Term as only, end_of-Term as end}
+use Rattle.topos_model.specs.declared.context.Ctx.{Ctx}
+use Rattle.topos_model.specs.declared.term.Term.{Term, Pair', Fst', Snd', App', Eval', Lam', Compr', Eq', Member', And', Or', Implies', Not', Forall', Exists', Unique', more_of-Term as only, end_of-Term as end}
 use Rattle.topos_model.specs.declared.stmt.Stmt.{Stmt}
-use Rattle.topos_model.specs.declared.stmt.Stmt.TheVariants.{Presheaf, Map, Product, Coproduct, Equalizer, Coequalizer, Pullback, Pushout, Image, Empty, Hom, Show}
+use Rattle.topos_model.specs.declared.stmt.Stmt.TheVariants.{Presheaf, Map, Product, Coproduct, Equalizer, Coequalizer, Pullback, Pushout, Image, Empty, Hom, Show, Classify, Valid}
 use Rattle.topos_model.specs.declared.doc.TopDecl.{TopDecl}
 use Rattle.topos_model.specs.declared.doc.Doc.{Doc}
 use Rattle.topos_model.specs.categories.Listed.{all_ends}
+use Rattle.term_ranges.specs.Ranges.{is_type_in_range, is_term_in_range}
 use Rattle.topos_model.specs.statements.Form.{is_category_listing, is_presheaf_listing, is_map_listing}
 
--- a functor name below n
-unfoldable pub is_functor_name : ℕ → Ty → Bool
-is_functor_name n (Base m) = ltb m n
-is_functor_name n _ = false
-
--- the functor of a variable, by the functors of all variables
-unfoldable pub variable_functor : List ℕ → Term → Option ℕ
-variable_functor Γ (Var k) = slice_get Γ k
-variable_functor Γ _ = None
-
-abbrev pub same_functor : Option ℕ → Option ℕ → Bool
-same_functor (Some m) (Some n) = eqb m n
-same_functor _ _ = false
-
--- made of truth, falsity, equations of two variables of one functor, conjunction and implication
-unfoldable pub is_propositional : List ℕ → Term → Bool
-is_propositional Γ Truth = true
-is_propositional Γ Falsity = true
-is_propositional Γ (Eq' _ (only t end) _ (only u end)) = same_functor (variable_functor Γ t) (variable_functor Γ u)
-is_propositional Γ (And' _ (only φ end) _ (only ψ end)) = is_propositional Γ φ && is_propositional Γ ψ
-is_propositional Γ (Implies' _ (only φ end) _ (only ψ end)) = is_propositional Γ φ && is_propositional Γ ψ
-is_propositional Γ _ = false
-
--- a functor that it names is among the first n
-unfoldable pub is_known : ℕ → Ty → Bool
-is_known n (Base m) = ltb m n
-is_known n _ = true
+-- a formula, or another term, that applies no map
+unfoldable pub applies_none : Term → Bool
+applies_none (Pair' _ (only t end) _ (only u end)) = applies_none t && applies_none u
+applies_none (Fst' _ (only t end)) = applies_none t
+applies_none (Snd' _ (only t end)) = applies_none t
+applies_none (App' m _ (only t end)) = false
+applies_none (Eval' _ (only t end) _ (only u end)) = applies_none t && applies_none u
+applies_none (Lam' T _ (only t end)) = applies_none t
+applies_none (Compr' T _ (only t end)) = applies_none t
+applies_none (Eq' _ (only t end) _ (only u end)) = applies_none t && applies_none u
+applies_none (Member' _ (only t end) _ (only u end)) = applies_none t && applies_none u
+applies_none (And' _ (only t end) _ (only u end)) = applies_none t && applies_none u
+applies_none (Or' _ (only t end) _ (only u end)) = applies_none t && applies_none u
+applies_none (Implies' _ (only t end) _ (only u end)) = applies_none t && applies_none u
+applies_none (Not' _ (only t end)) = applies_none t
+applies_none (Forall' T _ (only t end)) = applies_none t
+applies_none (Exists' T _ (only t end)) = applies_none t
+applies_none (Unique' T _ (only t end)) = applies_none t
+applies_none _ = true
 
 -- how many functors and maps a statement declares, where it is of a kind that is run
 unfoldable pub declares : Stmt → Option (ℕ × ℕ)
@@ -52,7 +45,13 @@ declares (Image m z e j) = Some (1, 2)
 declares (Empty z) = Some (1, 0)
 declares (Hom x y) = Some (0, 0)
 declares (Show under ctx φ) = Some (0, 0)
+declares (Classify under ctx φ) = Some (0, 0)
+declares (Valid under ctx φ) = Some (0, 0)
 declares _ = None
+
+-- the functors that a formula and its context name are among the first n, and the maps that it applies among the first l
+unfoldable pub is_formula_in_range : ℕ → ℕ → Ctx → Term → Bool
+is_formula_in_range n l ctx φ = list_all (is_type_in_range n) ctx.types && is_term_in_range n l φ
 
 -- the numbers that a statement of such a kind uses are in range, where n functors and l maps are declared before it; a functor is declared behind them
 unfoldable pub is_in_range : ℕ → List (ℕ × ℕ) → ℕ → ℕ → Stmt → Bool
@@ -66,7 +65,9 @@ is_in_range objects ends n l (Pullback m m' z p q) = eqb z n && ltb m l && ltb m
 is_in_range objects ends n l (Pushout m m' z i j) = eqb z n && ltb m l && ltb m' l
 is_in_range objects ends n l (Image m z e j) = eqb z n && ltb m l
 is_in_range objects ends n l (Hom x y) = ltb x n && ltb y n
-is_in_range objects ends n l (Show under ctx φ) = list_all (is_known n) ctx.types
+is_in_range objects ends n l (Show under ctx φ) = is_formula_in_range n l ctx φ
+is_in_range objects ends n l (Classify under ctx φ) = is_formula_in_range n l ctx φ
+is_in_range objects ends n l (Valid under ctx φ) = is_formula_in_range n l ctx φ
 is_in_range objects ends n l _ = true
 
 -- the same of statements in order, up to the first of a kind that is not run

@@ -1,10 +1,10 @@
 -- What the statements that are run answer over declared functors and maps, and why they are refused.
-use Rattle.std.specs.Prelude.{◌≡◌, ℕ, ◌+◌, ◌-◌, ◌≤◌, ◌<◌, true, false, not, List, [], map, reverse, length, Option, Some, None, ⊤}
-use Rattle.finite_lists.specs.First.{some_if}
+use Rattle.std.specs.Prelude.{◌≡◌, ◌↔◌, ℕ, ◌+◌, ◌-◌, ◌≤◌, ◌<◌, true, false, not, List, [], map, reverse, length, flat_map, Option, Some, None, Ok, ⊤}
+use Rattle.finite_lists.specs.First.{or_else, some_if}
 use Rattle.topos_model.specs.declared.stmt.Stmt.{Stmt}
 use Rattle.topos_model.specs.declared.stmt.Stmt.TheVariants as statement
 use Rattle.topos_model.specs.declared.answer.Answer.{Answer}
-use Rattle.topos_model.specs.declared.answer.Answer.TheVariants.{Quiet, Built, Maps, Shown}
+use Rattle.topos_model.specs.declared.answer.Answer.TheVariants.{Quiet, Built, Maps, Shown, Classified, Verdict}
 use Rattle.topos_model.specs.declared.fault.Fault.{Fault}
 use Rattle.topos_model.specs.declared.fault.Fault.TheVariants as refused
 use Rattle.presheaf_core.specs.declared.fault.FunctorFault.{FunctorFault}
@@ -20,17 +20,26 @@ use Rattle.topos_session.specs.declared.declarations.FunctorMap.{FunctorMap}
 use Rattle.topos_session.specs.declared.declarations.Declarations.{Declarations}
 use Rattle.topos_model.specs.categories.Category.{Category}
 use Rattle.topos_model.specs.types.Types.{Presheaf}
+use Rattle.topos_model.specs.declared.context.Ctx.{Ctx}
+use Rattle.topos_model.specs.declared.term.Term.{Term}
+use Rattle.topos_model.specs.declared.ty.Ty.{Ty, Omega}
+use Rattle.finite_lists.specs.Members.{In}
+use Rattle.topos_model.specs.formulas.Typing.{typed}
 use Rattle.topos_model.specs.formulas.Forcing.{shown}
+use Rattle.topos_model.specs.statements.StatementFaults.{formula_fault}
+use Rattle.term_typing.specs.declared.fault.TypeFault.{TypeFault}
+use Rattle.term_typing.specs.declared.fault.TypeFault.TheVariants as type_fault
+use Rattle.formula_answers.specs.Formulas.{world_of, IsFormulaOver}
 use Rattle.topos_model.specs.categories.Filling.{filled_presheaf}
 use Rattle.topos_model.specs.presheaves.NaturalMaps.{maps}
 use Rattle.topos_model.specs.presheaves.PresheafFaults.{presheaf_fault as fault_of_presheaf}
 use Rattle.topos_model.specs.presheaves.MapFaults.{listed_map, map_fault as fault_of_map}
-use Rattle.topos_model.specs.statements.Needs.{needs}
+use Rattle.topos_model.specs.statements.Needs.{needs, parts, term_needs}
 use Rattle.topos_model.specs.statements.Cells.{objects_of, hom_cells}
-use Rattle.topos_model.specs.statements.Answers.{tuple_of, shape_of, map_shape, functor_map}
+use Rattle.topos_model.specs.statements.Answers.{tuple_of, unforced, classified, shape_of, map_shape, functor_map}
 use Rattle.topos_session.specs.Ranges.{declares}
-use Rattle.topos_session.specs.Built.{is_built}
-use Rattle.topos_session.specs.Variables.{functor_at, presheaf_world}
+use Rattle.topos_session.specs.Built.{is_formula_built}
+use Rattle.topos_session.specs.Functors.{functor_at}
 use Rattle.topos_session.specs.Declarations.{declared_map, AreLawful, with_functor, with_presheaf, with_map, with_cells}
 use Rattle.topos_session.specs.Constructions.{is_construction, between, property, fit}
 
@@ -47,6 +56,14 @@ map_stop (map_fault.NoElement c k) = stop.Refused (refused.NoElement c k)
 map_stop (map_fault.MapNotTotal c x) = stop.Refused (refused.MapNotTotal c x)
 map_stop (map_fault.NotNatural f x) = stop.Refused (refused.NotNatural f x)
 map_stop map_fault.NoMemory = stop.NoMemory
+
+-- the stop by a fault of types
+abbrev pub type_stop : TypeFault → Stop
+type_stop (type_fault.Expected S T) = stop.Refused (refused.Expected S T)
+type_stop (type_fault.NotAFunction T) = stop.Refused (refused.NotAFunction T)
+type_stop (type_fault.NotAPower T) = stop.Refused (refused.NotAPower T)
+type_stop (type_fault.NotAPair T) = stop.Refused (refused.NotAPair T)
+type_stop type_fault.NoMemory = stop.NoMemory
 
 -- the stop by a fault of the store
 abbrev pub store_stop : StoreFault → Stop
@@ -70,21 +87,61 @@ AnswersOver k so (statement.Hom x y) answer after =
     let listed = maps k (functor_at so.world.functors x) (functor_at so.world.functors y) in
     (answer ≡ Maps (map (λ m. map_shape (functor_map x y m)) listed)) × (after ≡ with_cells so (hom_cells (length listed) (functor_at so.world.functors x)))
 AnswersOver k so (statement.Show under ctx φ) answer after =
-    (answer ≡ Shown ctx (map (λ c. map tuple_of (shown (presheaf_world k so.world.functors) (reverse ctx.types) φ c)) (objects_of k))) × (after ≡ so)
+    (answer ≡ Shown ctx (map (λ c. map tuple_of (shown (world_of so.world) (reverse ctx.types) φ c)) (objects_of k))) × (after ≡ so)
+AnswersOver k so (statement.Classify under ctx φ) answer after =
+    (answer ≡ Classified ctx (map (classified (world_of so.world) (reverse ctx.types) φ) (objects_of k))) × (after ≡ so)
+AnswersOver k so (statement.Valid under ctx φ) answer after =
+    (answer ≡ Verdict ctx (map (λ c. map tuple_of (unforced (world_of so.world) (reverse ctx.types) φ c)) (objects_of k))) × (after ≡ so)
 AnswersOver k so stmt answer after = Builds k so stmt answer after
+
+-- a formula that is not run is refused, and then one that has a fault of types or is of another type than truth values
+unfoldable pub formula_refusal : ℕ → Ctx → Term → Option Fault
+formula_refusal under ctx φ = or_else (some_if (not (is_formula_built under φ)) refused.NotBuilt) (formula_fault [] (reverse ctx.types, φ))
+
+-- the types that a formula counts
+abbrev pub formula_needs : Ctx → Term → List Ty
+formula_needs ctx φ = term_needs [] (reverse ctx.types) φ
 
 -- why a statement is refused
 abbrev pub refusal_over : Category → Declarations → Stmt → Option Fault
 refusal_over k so (statement.Presheaf functor raw) = fault_of_presheaf k raw
 refusal_over k so (statement.Map m x y raw) = fault_of_map k (functor_at so.world.functors x) (functor_at so.world.functors y) raw
 refusal_over k so (statement.Hom x y) = None
-refusal_over k so (statement.Show under ctx φ) = some_if (not (is_built (statement.Show under ctx φ))) refused.NotBuilt
+refusal_over k so (statement.Show under ctx φ) = formula_refusal under ctx φ
+refusal_over k so (statement.Classify under ctx φ) = formula_refusal under ctx φ
+refusal_over k so (statement.Valid under ctx φ) = formula_refusal under ctx φ
 refusal_over k so stmt = elim (is_construction stmt) [ true ↦ some_if (not (fit k so stmt)) refused.NotParallel | false ↦ Some refused.NotBuilt ]
 
 -- the types that a statement counts are sealed, and nothing else has changed
 pub record AreSealedFor (stmt : Stmt) (so mid : Declarations) : Type 0 where
   pub maps : mid.maps ≡ so.maps
   pub types : IsGrownBy (needs [] stmt) so.world mid.world
+
+-- a formula, and types that have the parts that it counts
+pub record IsTyped (ctx : Ctx) (φ : Term) (types : List Ty) : Type 0 where
+  pub formula : typed [] (reverse ctx.types) φ ≡ Ok Omega
+  pub counted : (T : Ty) → In (flat_map parts types) T ↔ In (formula_needs ctx φ) T
+
+-- its first fault of types, or another type than that of truth values
+abbrev pub IsTypeStop : Ctx → Term → Stop → Type 0
+IsTypeStop ctx φ (stop.Refused fault) = formula_fault [] (reverse ctx.types, φ) ≡ Some fault
+IsTypeStop ctx φ stop.Budget = ⊥
+IsTypeStop ctx φ stop.NoMemory = ⊤
+
+-- a formula is accepted, all its types are sealed and within the budget, and nothing else has changed
+pub record IsFormulaSealed (under : ℕ) (ctx : Ctx) (φ : Term) (so mid : Declarations) : Type 0 where
+  pub accepted : formula_refusal under ctx φ ≡ None
+  pub maps : mid.maps ≡ so.maps
+  pub types : IsGrownBy (formula_needs ctx φ) so.world mid.world
+  pub types_fit : cells_with so.world (formula_needs ctx φ) ≤ so.world.budget
+  pub within : world_cells mid.world ≤ so.world.budget
+  pub formula : IsFormulaOver mid.world (reverse ctx.types) φ
+
+-- it is refused, or its types have more cells than the budget
+abbrev pub IsFormulaStop : ℕ → Ctx → Term → Declarations → Stop → Type 0
+IsFormulaStop under ctx φ so (stop.Refused fault) = formula_refusal under ctx φ ≡ Some fault
+IsFormulaStop under ctx φ so stop.Budget = (formula_refusal under ctx φ ≡ None) × (so.world.budget < cells_with so.world (formula_needs ctx φ))
+IsFormulaStop under ctx φ so stop.NoMemory = ⊤
 
 -- a statement is answered, with this declared before it and behind it
 pub record IsAnsweredOver (k : Category) (so : Declarations) (stmt : Stmt) (answer : Answer) (after : Declarations) : Type 0 where

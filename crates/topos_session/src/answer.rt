@@ -5,23 +5,21 @@ ghost use Rattle.topos_model.specs.presheaves.PresheafFaults.{IsPresheafListing}
 ghost use Rattle.topos_model.specs.presheaves.MapFaults.{IsMapListing};
 ghost use Rattle.topos_session.specs.Ranges.{is_in_range};
 ghost use Rattle.sealed_world.specs.SealedWorlds.{world_cells};
-ghost use Rattle.topos_session.specs.Declarations.{AreLawful, IsKept};
+ghost use Rattle.topos_session.specs.Declarations.{AreLawful, HasNoCovers, IsKept};
 ghost use Rattle.topos_session.specs.Constructions.{is_construction};
 ghost use Rattle.topos_session.specs.Statements.{IsAnsweredOver, IsStoppedOver};
 
 use crate::Stop;
 use crate::constructions::construct;
 use crate::declarations::{Declarations, FunctorMap};
-use crate::form::is_shown;
+use crate::formulas::{classify, judge, show};
 use crate::homs::listed_maps;
 use crate::shapes::built;
-use crate::show::shown;
-use crate::types::shown_types;
 use functor_store::Over;
 use natural_maps::NatMap;
 use presheaf_core::Functor;
 use std::alloc::Global;
-use topos_model::{Answer, Copied, Ctx, Fault, RawFunctor, RawMap, Stmt, Term};
+use topos_model::{Answer, Fault, RawFunctor, RawMap, Stmt};
 
 // Declares a listed presheaf, the next one.
 fn declare_presheaf(
@@ -111,46 +109,12 @@ fn list(alloc: Global, so: &mut Declarations, ends: (u32, u32)) -> Result<Answer
     Ok(Answer::Maps(listed.shapes))
 }
 
-// Shows a formula over a context.
-fn show(
-    alloc: Global,
-    so: &mut Declarations,
-    under: u32,
-    ctx: &Ctx,
-    phi: &Term,
-) -> Result<Answer, Stop>
-    requires lawful { AreLawful so.old.world.site.category so.old }
-    requires range { is_in_range so.old.world.site.category.objects so.old.world.site.category.ends (length so.old.world.functors) (length so.old.maps) (statement.Show under ctx.now phi.now) ≡ true }
-    requires fits { world_cells so.old.world ≤ so.old.world.budget }
-    ensures answer { IfOk result (λ answer. IsAnsweredOver so.old.world.site.category so.old (statement.Show under ctx.now phi.now) answer so.new) }
-    ensures stop { IfErr result (IsStoppedOver so.old.world.site.category so.old (statement.Show under ctx.now phi.now)) }
-    ensures unchanged { OnErr result (IsKept so.old so.new) }
-{
-    if !is_shown(under, ctx, phi) {
-        return Err(Stop::Refused(Fault::NotBuilt));
-    }
-    let types = shown_types(alloc, ctx.types.as_slice())?;
-    so.world.need(alloc, types.as_slice())?;
-    let _room = so.world.room();
-    let ctx_copy = ctx.copy(alloc)?;
-    let stages = shown(
-        alloc,
-        so.cat(),
-        so.world.functors(),
-        ctx.types.as_slice(),
-        phi,
-    )?;
-    Ok(Answer::Shown {
-        ctx: ctx_copy,
-        stages,
-    })
-}
-
 /// Answers a statement, and puts last what it declares. Where it does not answer, what is declared is as before, and of the types that it counts some may be sealed. The
 /// cells of what is declared and counted so far are within the budget, or stop it.
 #[tactic(auto, using(crate::proofs::StatementForms::kind_rules))]
 pub(crate) fn answer(alloc: Global, so: &mut Declarations, stmt: &Stmt) -> Result<Answer, Stop>
     requires lawful { AreLawful so.old.world.site.category so.old }
+    requires covers { HasNoCovers so.old.world.site }
     requires range { is_in_range so.old.world.site.category.objects so.old.world.site.category.ends (length so.old.world.functors) (length so.old.maps) stmt.now ≡ true }
     requires few { length so.old.world.functors < 2 ^ 32 }
     requires fits { world_cells so.old.world ≤ so.old.world.budget }
@@ -171,6 +135,8 @@ pub(crate) fn answer(alloc: Global, so: &mut Declarations, stmt: &Stmt) -> Resul
         Stmt::Empty { .. } => build(alloc, so, stmt),
         Stmt::Hom { x, y } => list(alloc, so, (*x, *y)),
         Stmt::Show { under, ctx, phi } => show(alloc, so, *under, ctx, phi),
+        Stmt::Classify { under, ctx, phi } => classify(alloc, so, *under, ctx, phi),
+        Stmt::Valid { under, ctx, phi } => judge(alloc, so, *under, ctx, phi),
         _ => Err(Stop::Refused(Fault::NotBuilt)),
     }
 }

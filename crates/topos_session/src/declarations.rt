@@ -3,7 +3,7 @@ ghost use Rattle.std.specs.Prelude.{◌≡◌, ◌+◌, ◌^◌, ◌<◌, length
 ghost use Rattle.topos_model.specs.Laws.{IsFunctor};
 ghost use Rattle.sealed_functors.specs.Rows.{IsOverExactly};
 ghost use Rattle.sealed_world.specs.SealedWorlds.{world_cells, with_presheaf};
-ghost use Rattle.topos_session.specs.Variables.{functor_at};
+ghost use Rattle.topos_session.specs.Functors.{functor_at};
 ghost use Rattle.topos_session.specs.Declarations.{map_at, with_functor};
 
 use fin_category::Cat;

@@ -4,20 +4,16 @@
 mod answer;
 mod constructions;
 mod declarations;
-mod forcing;
 mod form;
+mod formulas;
 mod homs;
 mod listing;
 mod range;
 mod run;
 mod session;
 mod shapes;
-mod show;
 mod stop;
-mod types;
-mod variable;
 
 pub use run::{Run, run_document};
 pub use session::Session;
 pub use stop::{SiteStop, Stop};
-pub use variable::Variable;

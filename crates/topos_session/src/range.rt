@@ -1,12 +1,14 @@
 // Whether the numbers of a document are in range.
 ghost use Rattle.std.specs.Prelude.{◌≡◌, ◌≤◌, ◌+◌, ◌&&◌, length, eqb, leb, ltb, IfOk};
 ghost use Rattle.std.specs.List.{list_all};
-ghost use Rattle.topos_session.specs.Ranges.{is_known, is_in_range, declares, are_in_range, has_range, max_statements};
+ghost use Rattle.term_ranges.specs.Ranges.{is_type_in_range};
+ghost use Rattle.topos_session.specs.Ranges.{is_formula_in_range, is_in_range, declares, are_in_range, has_range, max_statements};
 
 use crate::listing::{is_map_listing, is_presheaf_listing};
 use fin_category::{all_ends, is_listing};
 use std::alloc::Global;
-use topos_model::{Doc, NoMemory, Stmt, Ty};
+use term_ranges::{is_term_in_range, is_type_in_range};
+use topos_model::{Ctx, Doc, NoMemory, Stmt, Term, Ty};
 
 // How many statements a document may have, those of its site among them.
 const MAX_STATEMENTS: u32 = 10_000;
@@ -18,30 +20,19 @@ fn are_few(site_len: u32, stmts: usize) -> bool
     site_len <= MAX_STATEMENTS && stmts <= (MAX_STATEMENTS - site_len) as usize
 }
 
-// Whether a type, if it names a functor, names one of the first so many.
-#[tactic(auto, using(crate::proofs::FormEquations::known_rules))]
-fn is_known(functors: usize, ty: &Ty) -> bool
-    ensures { result ≡ is_known functors ty.now }
+// Whether each functor that one of the types names is among the first ones.
+fn are_types_in_range(functors: u32, types: &[Ty]) -> bool
+    ensures { result ≡ list_all (is_type_in_range functors) types.now }
 {
-    match ty {
-        Ty::Base(functor) => (*functor as usize) < functors,
-        Ty::One => true,
-        Ty::Omega => true,
-        Ty::Two(_, _) => true,
-        Ty::Pow(_) => true,
-        Ty::Fun(_, _) => true,
-    }
+    types.iter().all(|ty| is_type_in_range(functors, ty))
 }
 
-fn are_known(functors: usize, types: &[Ty]) -> bool
-    ensures { result ≡ list_all (is_known functors) types.now }
+// Whether the functors that a formula and its context name, and the maps that it applies, are declared.
+fn is_formula_in_range(counts: Counts, ctx: &Ctx, phi: &Term) -> bool
+    ensures { result ≡ is_formula_in_range counts.functors counts.maps ctx.now phi.now }
 {
-    for ty in types {
-        if !is_known(functors, ty) {
-            return false;
-        }
-    }
-    true
+    are_types_in_range(counts.functors, ctx.types.as_slice())
+        && is_term_in_range(counts.functors, counts.maps, phi)
 }
 
 // How many functors and maps a statement declares, where it is of a kind that is run.
@@ -62,6 +53,8 @@ fn declares(stmt: &Stmt) -> Option<(u32, u32)>
         Stmt::Empty { .. } => Some((1, 0)),
         Stmt::Hom { .. } => Some((0, 0)),
         Stmt::Show { .. } => Some((0, 0)),
+        Stmt::Classify { .. } => Some((0, 0)),
+        Stmt::Valid { .. } => Some((0, 0)),
         _ => None,
     }
 }
@@ -119,7 +112,9 @@ fn is_in_range(
         Stmt::Pushout { m, n, functor, .. } => Ok(are_maps(counts, *m, *n, *functor)),
         Stmt::Image { m, functor, .. } => Ok(*functor == counts.functors && *m < counts.maps),
         Stmt::Hom { x, y } => Ok(*x < counts.functors && *y < counts.functors),
-        Stmt::Show { ctx, .. } => Ok(are_known(counts.functors as usize, ctx.types.as_slice())),
+        Stmt::Show { ctx, phi, .. } => Ok(is_formula_in_range(counts, ctx, phi)),
+        Stmt::Classify { ctx, phi, .. } => Ok(is_formula_in_range(counts, ctx, phi)),
+        Stmt::Valid { ctx, phi, .. } => Ok(is_formula_in_range(counts, ctx, phi)),
         _ => Ok(true),
     }
 }

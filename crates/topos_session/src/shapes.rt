@@ -2,7 +2,7 @@
 ghost use Rattle.std.specs.Prelude.{◌≡◌, ◌≤◌, ◌<◌, ◌++◌, ◌∷◌, [], ℕ, map, length, get_or, IfOk};
 ghost use Rattle.topos_model.specs.Laws.{IsFunctor};
 ghost use Rattle.topos_model.specs.statements.Answers.{shape_of, map_shape, functor_map, element_pairs};
-ghost use Rattle.topos_session.specs.Variables.{functor_at, AreFunctors};
+ghost use Rattle.topos_session.specs.Functors.{functor_at, AreFunctors};
 ghost use Rattle.topos_session.specs.Declarations.{declared_map, map_at, IsFunctorMap};
 ghost use Rattle.topos_model.specs.declared.answer.Answer.TheVariants.{Built};
 

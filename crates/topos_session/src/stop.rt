@@ -2,6 +2,7 @@
 use functor_store::StoreFault;
 use natural_maps::MapFault;
 use presheaf_core::FunctorFault;
+use term_typing::TypeFault;
 use topos_model::{Doc, Fault, NoMemory};
 
 /// Why a document's site is not run.
@@ -54,6 +55,25 @@ impl From<StoreFault> for Stop {
         match fault {
             StoreFault::Over => Stop::Budget,
             StoreFault::NoMemory => Stop::NoMemory,
+        }
+    }
+}
+
+impl From<TypeFault> for Stop {
+    ghost use Rattle.std.specs.Prelude.{◌≡◌};
+    ghost use Rattle.topos_session.specs.Statements.{type_stop};
+
+    ghost from_gives = { λ fault stop. stop ≡ type_stop fault };
+
+    fn from(fault: TypeFault) -> Stop {
+        match fault {
+            TypeFault::Expected { needed, found } => {
+                Stop::Refused(Fault::Expected { needed, found })
+            }
+            TypeFault::NotAFunction { found } => Stop::Refused(Fault::NotAFunction { found }),
+            TypeFault::NotAPower { found } => Stop::Refused(Fault::NotAPower { found }),
+            TypeFault::NotAPair { found } => Stop::Refused(Fault::NotAPair { found }),
+            TypeFault::NoMemory => Stop::NoMemory,
         }
     }
 }

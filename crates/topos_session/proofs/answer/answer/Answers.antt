@@ -6,8 +6,8 @@ use Rattle.topos_model.specs.declared.answer.Answer.TheVariants.{Shown}
 use Rattle.topos_session.specs.declared.stop.Stop.TheVariants.{Refused}
 use Rattle.topos_model.specs.declared.fault.Fault.TheVariants.{NotBuilt}
 use Rattle.topos_session.specs.Statements.{IsAnsweredOver, IsStoppedOver}
-use Rattle.topos_session.proofs.StatementRanges.{listing_of, map_range, hom_range, known_types, shown_parts, all_declared}
-use Rattle.topos_session.proofs.StatementAnswers.{formula_shown, formula_refused, refused_other}
+use Rattle.topos_session.proofs.StatementRanges.{listing_of, map_range, hom_range, formula_range, classified_range, judged_range}
+use Rattle.topos_session.proofs.StatementAnswers.{refused_other}
 use Rattle.topos_session.proofs.answer.answer.Goals as goal
 
 pub declare_presheaf-requires-clause-listing : goal.declare_presheaf-requires-clause-listing
@@ -44,7 +44,7 @@ list-requires-clause-codomain c =
     (hom_range c.args.so.now.world.site.category (length so.world.functors) (length so.maps) c.args.stmt.now c.in-Hom.x c.in-Hom.y c.in-Hom.is c.requires.range).1
 
 pub returns-in_default-clause-stop : goal.returns-in_default-clause-stop
-returns-in_default-clause-stop c = refused_other c.args.so.now.world.site.category c.args.so.now c.args.stmt.now c.in_default.not-Presheaf c.in_default.not-Map c.in_default.not-Product c.in_default.not-Coproduct c.in_default.not-Equalizer c.in_default.not-Coequalizer c.in_default.not-Pullback c.in_default.not-Pushout c.in_default.not-Image c.in_default.not-Empty c.in_default.not-Hom c.in_default.not-Show
+returns-in_default-clause-stop c = refused_other c.args.so.now.world.site.category c.args.so.now c.args.stmt.now c.in_default.not-Presheaf c.in_default.not-Map c.in_default.not-Product c.in_default.not-Coproduct c.in_default.not-Equalizer c.in_default.not-Coequalizer c.in_default.not-Pullback c.in_default.not-Pushout c.in_default.not-Image c.in_default.not-Empty c.in_default.not-Hom c.in_default.not-Show c.in_default.not-Classify c.in_default.not-Valid
 
 pub returns-in-Presheaf-clause-unchanged : goal.returns-in-Presheaf-clause-unchanged
 returns-in-Presheaf-clause-unchanged c = on_err_weaker c.declare_presheaf.result (unchanged_kept c.args.so.now c.declare_presheaf.new.so) c.declare_presheaf.ensures.unchanged
@@ -81,3 +81,18 @@ returns-in-Hom-clause-unchanged c = on_err_weaker c.list.result (unchanged_kept 
 
 pub returns-in_default-clause-unchanged : goal.returns-in_default-clause-unchanged
 returns-in_default-clause-unchanged c = unchanged_kept c.args.so.now c.args.so.now refl
+
+pub show-requires-clause-range : goal.show-requires-clause-range
+show-requires-clause-range c =
+    let so = c.args.so.now in
+    formula_range so.world.site.category.objects so.world.site.category.ends (length so.world.functors) (length so.maps) c.args.stmt.now c.in-Show.under c.in-Show.ctx c.in-Show.phi c.in-Show.is c.requires.range
+
+pub classify-requires-clause-range : goal.classify-requires-clause-range
+classify-requires-clause-range c =
+    let so = c.args.so.now in
+    classified_range so.world.site.category.objects so.world.site.category.ends (length so.world.functors) (length so.maps) c.args.stmt.now c.in-Classify.under c.in-Classify.ctx c.in-Classify.phi c.in-Classify.is c.requires.range
+
+pub judge-requires-clause-range : goal.judge-requires-clause-range
+judge-requires-clause-range c =
+    let so = c.args.so.now in
+    judged_range so.world.site.category.objects so.world.site.category.ends (length so.world.functors) (length so.maps) c.args.stmt.now c.in-Valid.under c.in-Valid.ctx c.in-Valid.phi c.in-Valid.is c.requires.range

@@ -1,6 +1,6 @@
 use Rattle.std.proofs.Common.{true, [], ◌∷◌, refl}
 use Rattle.topos_model.specs.presheaves.Colimits.{IsCoproduct}
-use Rattle.topos_session.specs.Variables.{functor_at}
+use Rattle.topos_session.specs.Functors.{functor_at}
 use Rattle.topos_session.specs.Constructions.{between, AsCoproduct}
 use Rattle.topos_session.proofs.LargeConstructions.{two_over}
 use Rattle.topos_session.proofs.constructions.coproduct_of.Goals as goal

@@ -1,6 +1,6 @@
 use Rattle.std.proofs.Common.{true, [], ◌∷◌, refl}
 use Rattle.topos_model.specs.presheaves.Limits.{IsImage}
-use Rattle.topos_session.specs.Variables.{functor_at}
+use Rattle.topos_session.specs.Functors.{functor_at}
 use Rattle.topos_session.specs.Declarations.{map_at}
 use Rattle.topos_session.specs.Constructions.{between, from, to, AsImage}
 use Rattle.topos_session.proofs.LargeConstructions.{two_over}

@@ -1,6 +1,6 @@
 use Rattle.std.proofs.Common.{true, [], ◌∷◌, refl}
 use Rattle.topos_model.specs.presheaves.Limits.{IsProduct}
-use Rattle.topos_session.specs.Variables.{functor_at}
+use Rattle.topos_session.specs.Functors.{functor_at}
 use Rattle.topos_session.specs.Constructions.{between, AsProduct}
 use Rattle.topos_session.proofs.LargeConstructions.{two_over}
 use Rattle.topos_session.proofs.constructions.product_of.Goals as goal

@@ -1,6 +1,6 @@
 use Rattle.std.proofs.Common.{◌≡◌, true, [], ◌∷◌, refl, sym, ◌∙◌}
 use Rattle.topos_model.specs.presheaves.Colimits.{IsPushout}
-use Rattle.topos_session.specs.Variables.{functor_at}
+use Rattle.topos_session.specs.Functors.{functor_at}
 use Rattle.topos_session.specs.Declarations.{map_at}
 use Rattle.topos_session.specs.Constructions.{between, to, same_domain, AsPushout}
 use Rattle.topos_session.proofs.LargeConstructions.{two_over}

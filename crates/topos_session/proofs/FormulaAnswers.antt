@@ -1,0 +1,166 @@
+-- Statements about a formula: why they are refused, what they count, and that they answer.
+use Rattle.std.proofs.Common.{◌≡◌, ℕ, ◌+◌, ◌-◌, ◌<◌, ◌≤◌, true, false, ◌&&◌, eqb, cond, inl, inr, List, [], ◌∷◌, map, reverse, length, flat_map, Option, Some, None, Ok, Err, refl, sym, ap, subst, ◌∙◌, arith}
+use Rattle.std.specs.Prelude.{OnOk, OnErr, IfOk, IfErr}
+use Rattle.std.proofs.lemmas.Bool.{cases_lt}
+use Rattle.std.proofs.lemmas.List.{append-nil}
+use denote.Hole.Carrier
+use Rattle.finite_lists.specs.Members.{In}
+use Rattle.topos_model.specs.declared.ty.Ty.{Ty, Base, Omega}
+use Rattle.topos_model.specs.declared.ty.Ty.TheBlock.{hidden-the_row-Ty-0}
+use Rattle.topos_model.specs.declared.term.Term.{Term}
+use Rattle.topos_model.specs.declared.context.Ctx.{Ctx}
+use Rattle.topos_model.specs.declared.stmt.Stmt.{Stmt}
+use Rattle.topos_model.specs.declared.stmt.Stmt.TheVariants.{Show, Classify, Valid}
+use Rattle.topos_model.specs.declared.answer.Answer.{Answer}
+use Rattle.topos_model.specs.declared.fault.Fault.TheVariants.{NotBuilt, Expected as ExpectedFault}
+use Rattle.topos_model.specs.categories.Category.{Category}
+use Rattle.topos_model.specs.topologies.Cover.{Site}
+use Rattle.topos_model.specs.types.Types.{Presheaf}
+use Rattle.topos_model.specs.types.SameType.{same_type}
+use Rattle.topos_model.specs.Laws.{IsCategory, IsTopology}
+use Rattle.topos_model.specs.formulas.Typing.{typed}
+use Rattle.topos_model.specs.statements.Needs.{parts, needs, types_of, terms_of}
+use Rattle.topos_model.specs.statements.Cells.{is_named}
+use Rattle.topos_model.specs.statements.StatementFaults.{formula_fault}
+use Rattle.functor_store.specs.declared.fault.StoreFault.{StoreFault}
+use Rattle.functor_store.specs.declared.fault.StoreFault.TheVariants.{Over, NoMemory as OutOfMemory}
+use Rattle.sealed_functors.specs.Rows.{IsOverExactly}
+use Rattle.sealed_world.specs.SealedWorlds.{CountedWorld, world_cells, cells_with, IsGrownBy}
+use Rattle.sealed_world.proofs.Growing.{not_grown, grown_more, no_more, no_less}
+use Rattle.term_typing.specs.declared.fault.TypeFault.{TypeFault}
+use Rattle.term_typing.specs.declared.fault.TypeFault.TheVariants.{Expected, NotAFunction, NotAPower, NotAPair, NoMemory}
+use Rattle.term_typing.specs.Inferring.{IsFaultOf}
+use Rattle.formula_answers.specs.Formulas.{IsFormulaOver}
+use Rattle.topos_session.specs.declared.declarations.Declarations.{Declarations}
+use Rattle.topos_session.specs.declared.stop.Stop.{Stop}
+use Rattle.topos_session.specs.declared.stop.Stop.TheVariants as stop
+use Rattle.topos_session.specs.Ranges.{applies_none, declares, is_formula_in_range}
+use Rattle.topos_session.specs.Built.{is_formula_built}
+use Rattle.topos_session.specs.Functors.{AreFunctors}
+use Rattle.topos_session.specs.Declarations.{AreLawful, HasNoCovers}
+use Rattle.topos_session.specs.Statements.{formula_refusal, formula_needs, refusal_over, AnswersOver, IsTyped, IsTypeStop, IsFormulaSealed, IsFormulaStop, IsAnsweredOver, IsStoppedOver, by_types, type_stop, store_stop}
+use Rattle.topos_session.proofs.FormulaStatements.{names_declared, needs_sheaves}
+use Rattle.topos_session.proofs.LawfulDeclarations.{lawful_sealed}
+
+module _ (under : ℕ) (ctx : Ctx) (φ : Term) where
+  -- why a formula is refused
+  pub formula_unbuilt : (eqb under 0 && applies_none φ) ≡ false → formula_refusal under ctx φ ≡ Some NotBuilt
+  unfolding formula_refusal is_formula_built
+  formula_unbuilt e = rw e refl
+
+  pub typing_stops : (fault : TypeFault) → IsFaultOf (typed [] (reverse ctx.types) φ) fault → IsTypeStop ctx φ (type_stop fault)
+  unfolding formula_fault
+  typing_stops (Expected S T) h = rw h refl
+  typing_stops (NotAFunction T) h = rw h refl
+  typing_stops (NotAPower T) h = rw h refl
+  typing_stops (NotAPair T) h = rw h refl
+  typing_stops NoMemory h = tt
+
+  pub no_formula : (T : Ty) → typed [] (reverse ctx.types) φ ≡ Ok T → same_type Omega T ≡ false → formula_fault [] (reverse ctx.types, φ) ≡ Some (ExpectedFault Omega T)
+  unfolding formula_fault
+  no_formula T found other = rw (found, other) refl
+
+  module _ (built : (eqb under 0 && applies_none φ) ≡ true) where
+    -- a fault of its types refuses it
+    pub type_stops : (so : Declarations) (s : Stop) → IsTypeStop ctx φ s → IsFormulaStop under ctx φ so s
+    unfolding formula_refusal is_formula_built
+    type_stops so (stop.Refused fault) h = rw (built, h) refl
+    type_stops so stop.Budget h = absurd h
+    type_stops so stop.NoMemory h = tt
+
+    pub formula_accepted : typed [] (reverse ctx.types) φ ≡ Ok Omega → formula_refusal under ctx φ ≡ None
+    unfolding formula_refusal is_formula_built formula_fault same_type hidden-the_row-Ty-0 Carrier.hidden
+    formula_accepted typing = rw (built, typing) refl
+
+    module _ (so : Declarations) (types : List Ty) (is : IsTyped ctx φ types) where
+      -- the types that are listed cost the same, with their parts
+      same_cost : cells_with so.world (formula_needs ctx φ) ≡ cells_with so.world (flat_map parts types)
+      same_cost =
+          let w = so.world in
+          let more = no_less [] (flat_map parts types) (formula_needs ctx φ) w w (not_grown [] w) (λ T i u. inr ((is.counted T).1 i)) in
+          let less = no_more [] (flat_map parts types) (formula_needs ctx φ) w w (not_grown [] w) (λ T n. absurd n) (λ T i. (is.counted T).0 i) in
+          omega (arith, more, less)
+
+      same_growth : (mid : CountedWorld) → IsGrownBy (flat_map parts types) so.world mid → IsGrownBy (formula_needs ctx φ) so.world mid
+      same_growth mid grown = record {
+        grown = grown_more (flat_map parts types) so.world (formula_needs ctx φ) mid (λ T i. (is.counted T).0 i) grown.grown;
+        all = λ T i u. grown.all T ((is.counted T).1 i) u;
+      }
+
+      pub types_over : (fault : StoreFault) → IsOverExactly {A = Unit {0}} (Err fault) (so.world.budget < cells_with so.world (flat_map parts types)) → IsFormulaStop under ctx φ so (store_stop fault)
+      types_over Over over = (formula_accepted is.formula, omega (arith, over, same_cost))
+      types_over OutOfMemory over = tt
+
+      module _ (l : ℕ) (range : is_formula_in_range (length so.world.functors) l ctx φ ≡ true) (none : applies_none φ ≡ true) where
+        pub types_named : (n : ℕ) → In (flat_map parts types) (Base n) → n < length so.world.functors
+        types_named n i = names_declared (length so.world.functors) l ctx φ range none n ((is.counted (Base n)).0 i)
+
+        pub formula_sealed : (mid : Declarations) → mid.maps ≡ so.maps → IsGrownBy (flat_map parts types) so.world mid.world → (so.world.budget < cells_with so.world (flat_map parts types) → ⊥)
+            → world_cells mid.world ≤ mid.world.budget → IsCategory so.world.site.category → IsTopology so.world.site → HasNoCovers so.world.site → AreFunctors so.world.site.category so.world.functors
+            → IsFormulaSealed under ctx φ so mid
+        formula_sealed mid maps grown fit within lawful top covers are =
+            let by = same_growth mid.world grown in
+            let site : mid.world.site ≡ so.world.site = ap (λ (w : CountedWorld). w.site) by.grown.is in
+            let functors : mid.world.functors ≡ so.world.functors = ap (λ (w : CountedWorld). w.functors) by.grown.is in
+            let budget : mid.world.budget ≡ so.world.budget = ap (λ (w : CountedWorld). w.budget) by.grown.is in
+            let named = names_declared (length so.world.functors) l ctx φ range none in
+            record {
+              accepted = formula_accepted is.formula;
+              maps = maps;
+              types = by;
+              types_fit = not_over same_cost fit;
+              within = omega (arith, within, budget);
+              formula = record {
+                typing = is.formula;
+                named = λ n i. subst (λ (fs : List Presheaf). n < length fs) (sym functors) (named n i);
+                counted = by.all;
+                sheaves = rw (site, functors) (needs_sheaves so.world.site lawful top covers so.world.functors are [] (reverse ctx.types) φ named);
+              };
+            }
+          where
+            not_over : {a b c : ℕ} → a ≡ b → (c < b → ⊥) → a ≤ c
+            not_over {a} {b} {c} e h = elim (cases_lt c b) [ inl over ↦ absurd (h over) | inr fits ↦ omega (arith, fits, e) ]
+
+-- a statement about the formula
+module _ (k : Category) (so : Declarations) (under : ℕ) (ctx : Ctx) (φ : Term) (stmt : Stmt) (refusal_is : refusal_over k so stmt ≡ formula_refusal under ctx φ) (needs_are : needs [] stmt ≡ formula_needs ctx φ)
+    (none : declares stmt ≡ Some (0, 0)) where
+  pub formula_stopped : (s : Stop) → IsFormulaStop under ctx φ so s → IsStoppedOver k so stmt s
+  formula_stopped (stop.Refused fault) h = refusal_is ∙ h
+  formula_stopped stop.Budget h = by_types (refusal_is ∙ h.0) (subst (λ l. so.world.budget < cells_with so.world l) (sym needs_are) h.1)
+  formula_stopped stop.NoMemory h = tt
+
+  pub formula_answered : (mid : Declarations) (answer : Answer) → IsFormulaSealed under ctx φ so mid → AnswersOver k mid stmt answer mid → AreLawful k so → IsAnsweredOver k so stmt answer mid
+  formula_answered mid answer h answers lawful =
+      let functors : mid.world.functors ≡ so.world.functors = ap (λ (w : CountedWorld). w.functors) h.types.grown.is in
+      record {
+        accepted = refusal_is ∙ h.accepted;
+        mid = mid;
+        sealed = record { maps = h.maps; types = subst (λ l. IsGrownBy l so.world mid.world) (sym needs_are) h.types };
+        types_fit = subst (λ l. cells_with so.world l ≤ so.world.budget) (sym needs_are) h.types_fit;
+        answers = answers;
+        within = h.within;
+        lawful = lawful_sealed k so lawful mid functors h.maps;
+        declared = none ∙ counts (length mid.world.functors) (length so.world.functors) (length mid.maps) (length so.maps) (ap length functors) (ap length h.maps);
+        functors = let e = ap length functors in omega (arith, e);
+        maps = let e = ap length h.maps in omega (arith, e);
+        kept = (ap (λ (w : CountedWorld). w.site) h.types.grown.is, refl, ap (λ (w : CountedWorld). w.budget) h.types.grown.is);
+      }
+    where
+      counts : (a b c d : ℕ) → a ≡ b → c ≡ d → ◌≡◌ {A = Option (ℕ × ℕ)} (Some (0, 0)) (Some (a - b, c - d))
+      counts a b c d e f = same (a - b) (c - d) (omega (arith, e)) (omega (arith, f))
+        where
+          same : (x y : ℕ) → 0 ≡ x → 0 ≡ y → ◌≡◌ {A = Option (ℕ × ℕ)} (Some (0, 0)) (Some (x, y))
+          same x y p q = rw (sym p, sym q) refl
+
+-- what each of the three counts
+pub needs-Show : (under : ℕ) (ctx : Ctx) (φ : Term) → needs [] (Show under ctx φ) ≡ formula_needs ctx φ
+unfolding needs types_of terms_of
+needs-Show under ctx φ = append-nil (formula_needs ctx φ)
+
+pub needs-Classify : (under : ℕ) (ctx : Ctx) (φ : Term) → needs [] (Classify under ctx φ) ≡ formula_needs ctx φ
+unfolding needs types_of terms_of
+needs-Classify under ctx φ = append-nil (formula_needs ctx φ)
+
+pub needs-Valid : (under : ℕ) (ctx : Ctx) (φ : Term) → needs [] (Valid under ctx φ) ≡ formula_needs ctx φ
+unfolding needs types_of terms_of
+needs-Valid under ctx φ = append-nil (formula_needs ctx φ)

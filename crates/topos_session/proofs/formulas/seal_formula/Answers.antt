@@ -1,0 +1,53 @@
+use Rattle.std.proofs.Common.{◌≡◌, ◌+◌, ◌<◌, ◌≤◌, true, ◌&&◌, eqb, length, List, Err, refl, sym, ap, subst, ◌∙◌, arith}
+use Rattle.std.specs.List.{flat_map}
+use Rattle.std.proofs.lemmas.Bool.{and_parts}
+use Rattle.std.proofs.lemmas.Result.{err_from_is_err_and}
+use Rattle.topos_model.specs.declared.ty.Ty.{Ty}
+use Rattle.topos_model.specs.Laws.{IsCategory, IsTopology}
+use Rattle.topos_model.specs.statements.Needs.{parts}
+use Rattle.sealed_functors.specs.Rows.{IsOverExactly}
+use Rattle.sealed_world.specs.SealedWorlds.{cells_with, IsGrownBy}
+use Rattle.topos_session.specs.Statements.{IsTyped}
+use Rattle.topos_session.proofs.LawfulDeclarations.{unchanged_kept}
+use Rattle.topos_session.proofs.FormulaAnswers.{formula_unbuilt, type_stops, types_over, types_named, formula_sealed}
+use Rattle.topos_session.proofs.formulas.seal_formula.Goals as goal
+
+pub returns-then-not-is_formula_built-clause-stop : goal.returns-then-not-is_formula_built-clause-stop
+returns-then-not-is_formula_built-clause-stop c = formula_unbuilt c.args.under c.args.ctx.now c.args.phi.now (sym c.is_formula_built.ensures ∙ c.if-not-is_formula_built.true)
+
+pub returns-then-not-is_formula_built-clause-unchanged : goal.returns-then-not-is_formula_built-clause-unchanged
+returns-then-not-is_formula_built-clause-unchanged c = unchanged_kept c.args.so.now c.args.so.now refl
+
+pub returns-in_err-types-clause-stop : goal.returns-in_err-types-clause-stop
+returns-in_err-types-clause-stop c =
+    let built = sym c.is_formula_built.ensures ∙ c.if-not-is_formula_built.false in
+    let p = err_from_is_err_and c.from_residual.result c.from_residual.ensures.1 in
+    rw (p.1, p.2) (type_stops c.args.under c.args.ctx.now c.args.phi.now built c.args.so.now c.in_err-types.field-0.0 c.in_err-types.ensures.stop)
+
+pub returns-in_err-types-clause-unchanged : goal.returns-in_err-types-clause-unchanged
+returns-in_err-types-clause-unchanged c = let p = err_from_is_err_and c.from_residual.result c.from_residual.ensures.1 in rw p.1 (unchanged_kept c.args.so.now c.args.so.now refl)
+
+pub need-requires : goal.need-requires
+need-requires c =
+    let so = c.args.so.now in
+    let built = sym c.is_formula_built.ensures ∙ c.if-not-is_formula_built.false in
+    let is = subst (IsTyped c.args.ctx.now c.args.phi.now) (sym c.as_slice.ensures) c.in_ok-types.ensures.types in
+    record { named = types_named c.args.under c.args.ctx.now c.args.phi.now built so c.as_slice.result.now is (length so.maps) c.requires.range (and_parts _ _ built).1 }
+
+pub returns-in_err-need-clause-stop : goal.returns-in_err-need-clause-stop
+returns-in_err-need-clause-stop c =
+    let so = c.args.so.now in
+    let built = sym c.is_formula_built.ensures ∙ c.if-not-is_formula_built.false in
+    let is = subst (IsTyped c.args.ctx.now c.args.phi.now) (sym c.as_slice.ensures) c.in_ok-types.ensures.types in
+    let p = err_from_is_err_and c.from_residual-in_err-need.result c.from_residual-in_err-need.ensures.1 in
+    rw (p.1, p.2) (types_over c.args.under c.args.ctx.now c.args.phi.now built so c.as_slice.result.now is c.in_err-need.field-0.0 c.in_err-need.ensures.over)
+
+pub returns-clause-sealed : goal.returns-clause-sealed
+returns-clause-sealed c =
+    let so = c.args.so.now in
+    let built = sym c.is_formula_built.ensures ∙ c.if-not-is_formula_built.false in
+    let is = subst (IsTyped c.args.ctx.now c.args.phi.now) (sym c.as_slice.ensures) c.in_ok-types.ensures.types in
+    let lawful = subst IsCategory c.cat.ensures c.laws.ensures.lawful in
+    let top = subst IsTopology (c.top-top.ensures.site ∙ c.site.ensures) c.top-top.ensures.topology.topology in
+    formula_sealed c.args.under c.args.ctx.now c.args.phi.now built so c.as_slice.result.now is (length so.maps) c.requires.range (and_parts _ _ built).1 (record { world = c.need.new.self; maps = so.maps }) refl c.in_ok-need.ensures.ok
+    c.in_ok-need.ensures.over (let r = c.room-room.ensures.room in omega (arith, r)) lawful top c.requires.covers c.requires.lawful.functors

@@ -1,0 +1,125 @@
+// Statements about a formula.
+ghost use Rattle.std.specs.Prelude.{◌≡◌, ◌≤◌, true, [], length, reverse, IfOk, IfErr, OnErr, OnOk};
+ghost use Rattle.topos_model.specs.declared.stmt.Stmt.TheVariants as statement;
+ghost use Rattle.sealed_world.specs.SealedWorlds.{world_cells};
+ghost use Rattle.topos_session.specs.Ranges.{is_formula_in_range};
+ghost use Rattle.topos_session.specs.Declarations.{AreLawful, HasNoCovers, IsKept};
+ghost use Rattle.topos_session.specs.Statements.{IsTyped, IsTypeStop, IsFormulaSealed, IsFormulaStop, IsAnsweredOver, IsStoppedOver};
+
+use crate::Stop;
+use crate::declarations::Declarations;
+use crate::form::is_formula_built;
+use formula_answers::{classified, shown, unforced};
+use std::alloc::Global;
+use term_typing::counted;
+use topos_model::{Answer, Copied, Ctx, Fault, Row, Term, Ty};
+
+// The types that a formula counts, or why it is none.
+fn formula_types(alloc: Global, ctx: &Ctx, phi: &Term) -> Result<Row<Ty>, Stop>
+    ensures types { IfOk result (λ types. IsTyped ctx.now phi.now types) }
+    ensures stop { IfErr result (λ stop. IsTypeStop ctx.now phi.now stop) }
+{
+    let found = counted(alloc, &[], ctx, phi)?;
+    let needed = Ty::Omega;
+    if needed == found.ty {
+        return Ok(found.types);
+    }
+    Err(Stop::Refused(Fault::Expected {
+        needed,
+        found: found.ty,
+    }))
+}
+
+// Seals the types that a formula counts, where it is accepted and they are within the budget.
+fn seal_formula(
+    alloc: Global,
+    so: &mut Declarations,
+    under: u32,
+    ctx: &Ctx,
+    phi: &Term,
+) -> Result<(), Stop>
+    requires lawful { AreLawful so.old.world.site.category so.old }
+    requires covers { HasNoCovers so.old.world.site }
+    requires range { is_formula_in_range (length so.old.world.functors) (length so.old.maps) ctx.now phi.now ≡ true }
+    requires fits { world_cells so.old.world ≤ so.old.world.budget }
+    ensures sealed { OnOk result (IsFormulaSealed under ctx.now phi.now so.old so.new) }
+    ensures stop { IfErr result (λ stop. IsFormulaStop under ctx.now phi.now so.old stop) }
+    ensures unchanged { OnErr result (IsKept so.old so.new) }
+{
+    if !is_formula_built(under, phi) {
+        return Err(Stop::Refused(Fault::NotBuilt));
+    }
+    // The laws of the site, for the proof alone.
+    so.cat().laws();
+    let _top = so.world.site().top();
+    let types = formula_types(alloc, ctx, phi)?;
+    so.world.need(alloc, types.as_slice())?;
+    let _room = so.world.room();
+    Ok(())
+}
+
+/// The tuples for which a formula is forced.
+pub(crate) fn show(
+    alloc: Global,
+    so: &mut Declarations,
+    under: u32,
+    ctx: &Ctx,
+    phi: &Term,
+) -> Result<Answer, Stop>
+    requires lawful { AreLawful so.old.world.site.category so.old }
+    requires covers { HasNoCovers so.old.world.site }
+    requires range { is_formula_in_range (length so.old.world.functors) (length so.old.maps) ctx.now phi.now ≡ true }
+    requires fits { world_cells so.old.world ≤ so.old.world.budget }
+    ensures answer { IfOk result (λ answer. IsAnsweredOver so.old.world.site.category so.old (statement.Show under ctx.now phi.now) answer so.new) }
+    ensures stop { IfErr result (IsStoppedOver so.old.world.site.category so.old (statement.Show under ctx.now phi.now)) }
+    ensures unchanged { OnErr result (IsKept so.old so.new) }
+{
+    seal_formula(alloc, so, under, ctx, phi)?;
+    let stages = shown(alloc, &so.world, ctx.types.as_slice(), phi)?;
+    let ctx = ctx.copy(alloc)?;
+    Ok(Answer::Shown { ctx, stages })
+}
+
+/// The sieve of the arrows along which a formula is forced, for each tuple.
+pub(crate) fn classify(
+    alloc: Global,
+    so: &mut Declarations,
+    under: u32,
+    ctx: &Ctx,
+    phi: &Term,
+) -> Result<Answer, Stop>
+    requires lawful { AreLawful so.old.world.site.category so.old }
+    requires covers { HasNoCovers so.old.world.site }
+    requires range { is_formula_in_range (length so.old.world.functors) (length so.old.maps) ctx.now phi.now ≡ true }
+    requires fits { world_cells so.old.world ≤ so.old.world.budget }
+    ensures answer { IfOk result (λ answer. IsAnsweredOver so.old.world.site.category so.old (statement.Classify under ctx.now phi.now) answer so.new) }
+    ensures stop { IfErr result (IsStoppedOver so.old.world.site.category so.old (statement.Classify under ctx.now phi.now)) }
+    ensures unchanged { OnErr result (IsKept so.old so.new) }
+{
+    seal_formula(alloc, so, under, ctx, phi)?;
+    let stages = classified(alloc, &so.world, ctx.types.as_slice(), phi)?;
+    let ctx = ctx.copy(alloc)?;
+    Ok(Answer::Classified { ctx, stages })
+}
+
+/// The tuples for which a formula is not forced.
+pub(crate) fn judge(
+    alloc: Global,
+    so: &mut Declarations,
+    under: u32,
+    ctx: &Ctx,
+    phi: &Term,
+) -> Result<Answer, Stop>
+    requires lawful { AreLawful so.old.world.site.category so.old }
+    requires covers { HasNoCovers so.old.world.site }
+    requires range { is_formula_in_range (length so.old.world.functors) (length so.old.maps) ctx.now phi.now ≡ true }
+    requires fits { world_cells so.old.world ≤ so.old.world.budget }
+    ensures answer { IfOk result (λ answer. IsAnsweredOver so.old.world.site.category so.old (statement.Valid under ctx.now phi.now) answer so.new) }
+    ensures stop { IfErr result (IsStoppedOver so.old.world.site.category so.old (statement.Valid under ctx.now phi.now)) }
+    ensures unchanged { OnErr result (IsKept so.old so.new) }
+{
+    seal_formula(alloc, so, under, ctx, phi)?;
+    let unforced = unforced(alloc, &so.world, ctx.types.as_slice(), phi)?;
+    let ctx = ctx.copy(alloc)?;
+    Ok(Answer::Verdict { ctx, unforced })
+}
