@@ -1,5 +1,5 @@
 -- The cells so far are those of the world in which the types that are counted are sealed.
-use Rattle.std.proofs.Common.{◌≡◌, ◌⊎◌, ℕ, ◌+◌, ◌*◌, ◌<◌, ◌≤◌, Bool, true, false, not, eqb, inl, inr, List, [], ◌∷◌, ◌++◌, length, map, filter, take, sum, slice_get, Some, refl, sym, ap, subst, ◌∙◌, arith}
+use Rattle.std.proofs.Common.{◌≡◌, ℕ, ◌+◌, ◌*◌, Bool, false, eqb, inl, inr, List, [], ◌∷◌, ◌++◌, length, map, filter, take, sum, slice_get, Some, sym, ap, subst, ◌∙◌, arith}
 use Rattle.std.specs.List.{flat_map, range_with_len}
 use Rattle.std.proofs.lemmas.Option.{get_or_from_slice_get, slice_get_within}
 use Rattle.std.proofs.lemmas.Grind.{flat_map-append}
@@ -14,7 +14,7 @@ use Rattle.topos_model.specs.topologies.Cover.{Site}
 use Rattle.topos_model.specs.statements.Needs.{under, needs}
 use Rattle.topos_model.specs.statements.Cells.{is_named, presheaf_cells, types_cells, types_under, cells}
 use Rattle.topos_model.specs.statements.Declarations.{category_of, site_of, cells_so_far}
-use Rattle.sealed_world.specs.SealedWorlds.{CountedWorld, counted_cells, world_cells, cells_with, IsGrown, IsGrownBy}
+use Rattle.sealed_world.specs.SealedWorlds.{CountedWorld, counted_cells, IsGrownBy}
 use Rattle.sealed_world.proofs.CountedCells.{types_within}
 use Rattle.sealed_world.proofs.Growing.{grown_keeps, grown_only}
 use Rattle.topos_session.specs.declared.declarations.Declarations.{Declarations}

@@ -1,6 +1,6 @@
 -- Declared maps, and formulas over declared functors, as the run sees them.
 use Rattle.std.proofs.Common.{◌≡◌, ℕ, ◌+◌, ◌<◌, Bool, true, not, ◌&&◌, List, [], ◌∷◌, ◌++◌, map, reverse, length, get_or, take, slice_get, is_none, Option, Some, None, refl, sym, ap, ◌∙◌, subst, arith}
-use Rattle.std.specs.List.{list_any, list_all, range_with_len}
+use Rattle.std.specs.List.{list_any, range_with_len}
 use Rattle.std.proofs.lemmas.Bool.{and_right, and_parts, eqb-true}
 use Rattle.std.proofs.lemmas.List.{map-append, length-map, take_more, get_or-map, ext_get_or}
 use Rattle.std.proofs.lemmas.List.FromFn.{length-map-range_with_len, get_or-map-range_with_len}
@@ -28,9 +28,7 @@ use Rattle.topos_model.specs.Laws.{IsCategory}
 use Rattle.topos_model.specs.presheaves.Maps.{Components}
 use Rattle.topos_model.specs.categories.Filling.{filled_category}
 use Rattle.topos_model.specs.topologies.Sheaves.{sheaf_fault}
-use Rattle.topos_model.specs.types.SameType.{same_type}
 use Rattle.topos_model.specs.statements.Needs.{named, under, needs, terms_of, types_of, is_functor}
-use Rattle.topos_model.specs.statements.Cells.{is_named}
 use Rattle.topos_model.specs.statements.StatementFaults.{foreign_map_fault, formula_fault, typing_fault}
 use Rattle.topos_model.specs.formulas.Forcing.{World, shown}
 use Rattle.topos_model.specs.statements.Declarations.{Declared, DeclaredMap, site_of, map_ends, world_under, functor_at, map_at, ends_at, domain_at, codomain_at, components_at, with_types}

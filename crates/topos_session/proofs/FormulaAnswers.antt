@@ -1,6 +1,5 @@
 -- Statements about a formula: why they are refused, what they count, and that they answer.
-use Rattle.std.proofs.Common.{◌≡◌, ℕ, ◌+◌, ◌-◌, ◌<◌, ◌≤◌, true, false, ◌&&◌, eqb, cond, inl, inr, List, [], ◌∷◌, map, reverse, length, flat_map, Option, Some, None, Ok, Err, refl, sym, ap, subst, ◌∙◌, arith}
-use Rattle.std.specs.Prelude.{OnOk, OnErr, IfOk, IfErr}
+use Rattle.std.proofs.Common.{◌≡◌, ℕ, ◌-◌, ◌<◌, ◌≤◌, true, false, ◌&&◌, eqb, inl, inr, List, [], reverse, length, flat_map, Option, Some, None, Ok, Err, refl, sym, ap, subst, ◌∙◌, arith}
 use Rattle.std.proofs.lemmas.Bool.{cases_lt}
 use Rattle.std.proofs.lemmas.List.{append-nil}
 use denote.Hole.Carrier
@@ -14,13 +13,11 @@ use Rattle.topos_model.specs.declared.stmt.Stmt.TheVariants.{Show, Classify, Val
 use Rattle.topos_model.specs.declared.answer.Answer.{Answer}
 use Rattle.topos_model.specs.declared.fault.Fault.TheVariants.{NotBuilt, Expected as ExpectedFault}
 use Rattle.topos_model.specs.categories.Category.{Category}
-use Rattle.topos_model.specs.topologies.Cover.{Site}
 use Rattle.topos_model.specs.types.Types.{Presheaf}
 use Rattle.topos_model.specs.types.SameType.{same_type}
 use Rattle.topos_model.specs.Laws.{IsCategory, IsTopology}
 use Rattle.topos_model.specs.formulas.Typing.{typed}
 use Rattle.topos_model.specs.statements.Needs.{parts, needs, types_of, terms_of}
-use Rattle.topos_model.specs.statements.Cells.{is_named}
 use Rattle.topos_model.specs.statements.StatementFaults.{formula_fault}
 use Rattle.functor_store.specs.declared.fault.StoreFault.{StoreFault}
 use Rattle.functor_store.specs.declared.fault.StoreFault.TheVariants.{Over, NoMemory as OutOfMemory}
@@ -30,7 +27,6 @@ use Rattle.sealed_world.proofs.Growing.{not_grown, grown_more, no_more, no_less}
 use Rattle.term_typing.specs.declared.fault.TypeFault.{TypeFault}
 use Rattle.term_typing.specs.declared.fault.TypeFault.TheVariants.{Expected, NotAFunction, NotAPower, NotAPair, NoMemory}
 use Rattle.term_typing.specs.Inferring.{IsFaultOf}
-use Rattle.formula_answers.specs.Formulas.{IsFormulaOver}
 use Rattle.topos_session.specs.declared.declarations.Declarations.{Declarations}
 use Rattle.topos_session.specs.declared.stop.Stop.{Stop}
 use Rattle.topos_session.specs.declared.stop.Stop.TheVariants as stop

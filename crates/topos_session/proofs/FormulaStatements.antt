@@ -1,10 +1,10 @@
 -- Formulas that apply no map: what they mean and count is the same whatever maps are declared, and where only the maximal sieves cover, all their types are of sheaves.
-use Rattle.std.proofs.Common.{◌≡◌, ℕ, zero, suc, ◌<◌, true, false, not, ◌&&◌, inl, inr, List, [], ◌∷◌, ◌++◌, map, filter, length, reverse, Option, Some, None, Ok, refl, sym, ap, ap₂, subst, ◌∙◌, slice_index_or, arith}
-use Rattle.std.specs.List.{All, list_all, flat_map}
+use Rattle.std.proofs.Common.{◌≡◌, ℕ, zero, suc, ◌<◌, true, false, not, inl, inr, List, [], ◌∷◌, ◌++◌, map, filter, length, reverse, None, Ok, refl, sym, ap, ap₂, subst, slice_index_or, arith}
+use Rattle.std.specs.List.{All, flat_map}
 use Rattle.std.proofs.lemmas.Bool.{and_parts}
 use Rattle.std.proofs.lemmas.List.{reverse-append}
 use Rattle.finite_lists.specs.Members.{In}
-use Rattle.finite_lists.proofs.Lists.{all_each, each_all, In-append_left, In-append_right, In-append_cases, In-flat_map, In-flat_map_from, In_at}
+use Rattle.finite_lists.proofs.Lists.{all_each, each_all, In-append_left, In-append_right, In-append_cases, In-flat_map, In-flat_map_from}
 use Rattle.topos_model.specs.declared.ty.Ty.{Ty, Base, One, Omega, Two', Pow', Fun', more_of-Ty as one, end_of-Ty as last}
 use Rattle.topos_model.specs.declared.term.Term.{Term, Pair', Fst', Snd', App', Eval', Lam', Compr', Eq', Member', And', Or', Implies', Not', Forall', Exists', Unique', more_of-Term as only, end_of-Term as end}
 use Rattle.topos_model.specs.declared.context.Ctx.{Ctx}
@@ -12,10 +12,9 @@ use Rattle.topos_model.specs.declared.context.MapTy.{MapTy}
 use Rattle.topos_model.specs.declared.stmt.Stmt.{Stmt}
 use Rattle.topos_model.specs.declared.stmt.Stmt.TheVariants.{Presheaf as PresheafStmt, Map, Product, Coproduct, Equalizer, Coequalizer, Pullback, Pushout, Image, Empty, Hom, Show, Classify, Valid}
 use Rattle.topos_model.specs.declared.value.Val.{Val}
-use Rattle.topos_model.specs.categories.Category.{Category}
 use Rattle.topos_model.specs.topologies.Cover.{Site}
 use Rattle.topos_model.specs.topologies.Sheaves.{IsSheaf, OfSheaves, sheaf_fault}
-use Rattle.topos_model.specs.Laws.{IsCategory, IsTopology, IsFunctor}
+use Rattle.topos_model.specs.Laws.{IsCategory, IsTopology}
 use Rattle.topos_model.specs.types.Types.{Presheaf, functor}
 use Rattle.topos_model.specs.formulas.Typing.{typed, formula}
 use Rattle.topos_model.specs.formulas.Forcing.{World, Assigned, Meaning, meaning, values, tuples, shown}
@@ -24,7 +23,6 @@ use Rattle.topos_model.specs.types.Values.{arrows_of}
 use Rattle.topos_model.specs.statements.Needs.{parts, found, product, subterms, term_needs, terms_of, types_of, needs}
 use Rattle.topos_model.specs.statements.StatementFaults.{applied, formula_fault, fault_of}
 use Rattle.term_ranges.specs.Ranges.{is_type_in_range, is_term_in_range}
-use Rattle.term_ranges.specs.RangeLaws.{with_maps}
 use Rattle.term_ranges.proofs.StableTerms.{typed_stable, needs_stable}
 use Rattle.term_ranges.proofs.NamedTypes.{names_in_range}
 use Rattle.term_ranges.proofs.StableMeanings.{meaning_stable}

@@ -1,13 +1,12 @@
 -- Statements that count no type.
-use Rattle.std.proofs.Common.{◌≡◌, ℕ, ◌≤◌, true, List, [], ◌++◌, refl, sym, ap, subst, ◌∙◌, arith}
+use Rattle.std.proofs.Common.{◌≡◌, ℕ, ◌≤◌, true, [], ◌++◌, refl, sym, ap, subst, ◌∙◌, arith}
 use Rattle.std.proofs.lemmas.List.{append-nil}
-use Rattle.topos_model.specs.declared.ty.Ty.{Ty}
 use Rattle.topos_model.specs.declared.stmt.Stmt.{Stmt}
 use Rattle.topos_model.specs.declared.stmt.Stmt.TheVariants.{Presheaf, Map, Product, Coproduct, Equalizer, Coequalizer, Pullback, Pushout, Image, Empty, Hom}
 use Rattle.topos_model.specs.declared.raw.RawFunctor.{RawFunctor}
 use Rattle.topos_model.specs.declared.raw.RawMap.{RawMap}
 use Rattle.topos_model.specs.statements.Needs.{needs, types_of, terms_of}
-use Rattle.sealed_world.specs.SealedWorlds.{CountedWorld, world_cells, cells_with, counted_cells, IsGrownBy}
+use Rattle.sealed_world.specs.SealedWorlds.{world_cells, cells_with, counted_cells, IsGrownBy}
 use Rattle.sealed_world.proofs.Growing.{not_grown}
 use Rattle.topos_session.specs.declared.declarations.Declarations.{Declarations}
 use Rattle.topos_session.specs.Constructions.{is_construction}

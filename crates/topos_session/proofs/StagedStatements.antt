@@ -1,5 +1,5 @@
 -- What statements answer over what is declared is what they answer in the run, and so with refusals and the budget.
-use Rattle.std.proofs.Common.{◌≡◌, ℕ, ◌+◌, ◌<◌, ◌≤◌, Bool, true, List, [], ◌++◌, length, slice_get, Option, Some, None, refl, sym, ap, ap₂, ◌∙◌, subst, inl, inr, arith}
+use Rattle.std.proofs.Common.{◌≡◌, ℕ, ◌+◌, ◌<◌, ◌≤◌, Bool, true, List, [], ◌++◌, length, slice_get, Option, Some, None, refl, sym, ap, ap₂, ◌∙◌, subst, inl, inr}
 use Rattle.std.proofs.lemmas.Bool.{cases_Bool}
 use Rattle.finite_lists.specs.Members.{In}
 use Rattle.topos_model.specs.declared.ty.Ty.{Ty}
@@ -9,18 +9,17 @@ use Rattle.topos_model.specs.declared.answer.Answer.{Answer}
 use Rattle.topos_model.specs.declared.fault.Fault.{Fault}
 use Rattle.topos_model.specs.declared.fault.Fault.TheVariants.{NotBuilt}
 use Rattle.topos_model.specs.categories.Category.{Category}
-use Rattle.topos_model.specs.topologies.Cover.{Site}
 use Rattle.topos_model.specs.Laws.{IsCategory}
 use Rattle.topos_model.specs.categories.Filling.{filled_category}
 use Rattle.topos_model.specs.statements.Needs.{under, needs}
 use Rattle.topos_model.specs.statements.Cells.{types_under}
-use Rattle.topos_model.specs.statements.Declarations.{Declared, cells_so_far, site_of, with_types}
+use Rattle.topos_model.specs.statements.Declarations.{Declared, cells_so_far, with_types}
 use Rattle.topos_model.specs.statements.Answers.{Answers}
 use Rattle.topos_model.specs.statements.Refusals.{IsRefusal, late_refusal}
 use Rattle.topos_session.specs.Ranges.{is_in_range}
 use Rattle.topos_model.specs.statements.Run.{IsCounted, IsAnswered, IsRefused, IsOver, with_its_types, with_its_answer, not_built, at_once}
 use Rattle.topos_session.specs.Built.{is_built, today}
-use Rattle.sealed_world.specs.SealedWorlds.{CountedWorld, counted_cells, world_cells, cells_with, IsGrownBy}
+use Rattle.sealed_world.specs.SealedWorlds.{CountedWorld, world_cells, cells_with}
 use Rattle.topos_session.specs.declared.declarations.FunctorMap.{FunctorMap}
 use Rattle.topos_session.specs.declared.declarations.Declarations.{Declarations}
 use Rattle.topos_session.specs.Declarations.{AreLawful, with_counted}

@@ -1,15 +1,12 @@
 -- The answers of statements and their refusals, over what is declared before them.
-use Rattle.std.proofs.Common.{◌≡◌, ℕ, ◌+◌, ◌-◌, ◌<◌, ◌≤◌, Bool, true, false, ◌&&◌, eqb, List, [], ◌∷◌, ◌++◌, map, reverse, length, Option, Some, None, Err, inl, inr, refl, sym, ap, subst, ◌∙◌, length-append, arith}
-use Rattle.std.proofs.lemmas.Bool.{cases_lt}
-use Rattle.std.specs.List.{list_all, range_with_len}
+use Rattle.std.proofs.Common.{◌≡◌, ℕ, ◌+◌, ◌-◌, ◌<◌, ◌≤◌, [], ◌∷◌, ◌++◌, map, length, Option, Some, None, Err, refl, ap, ◌∙◌, length-append, arith}
 use Rattle.topos_model.specs.declared.raw.RawFunctor.{RawFunctor}
 use Rattle.topos_model.specs.declared.raw.RawMap.{RawMap}
 use Rattle.topos_model.specs.declared.context.Ctx.{Ctx}
 use Rattle.topos_model.specs.declared.term.Term.{Term}
 use Rattle.topos_model.specs.declared.stmt.Stmt.{Stmt}
 use Rattle.topos_model.specs.declared.stmt.Stmt.TheVariants.{Presheaf, Map, Product, Coproduct, Equalizer, Coequalizer, Pullback, Pushout, Image, Empty, Hom, Show, Classify, Valid}
-use Rattle.topos_model.specs.declared.answer.Tuple.{Tuple}
-use Rattle.topos_model.specs.declared.answer.Answer.TheVariants.{Quiet, Maps, Shown}
+use Rattle.topos_model.specs.declared.answer.Answer.TheVariants.{Quiet, Maps}
 use Rattle.topos_model.specs.declared.fault.Fault.TheVariants.{NotBuilt}
 use Rattle.topos_model.specs.categories.Category.{Category}
 use Rattle.topos_model.specs.types.Types.{Presheaf as Functor}
@@ -19,14 +16,9 @@ use Rattle.topos_model.specs.presheaves.Maps.{Components, IsNatural}
 use Rattle.topos_model.specs.presheaves.NaturalMaps.{maps}
 use Rattle.topos_model.specs.presheaves.PresheafFaults.{presheaf_fault}
 use Rattle.topos_model.specs.presheaves.MapFaults.{listed_map, map_fault}
-use Rattle.topos_model.specs.formulas.Forcing.{shown}
-use Rattle.finite_lists.specs.Members.{In}
-use Rattle.topos_model.specs.declared.ty.Ty.{Ty}
-use Rattle.topos_model.specs.statements.Needs.{named, needs}
-use Rattle.topos_model.specs.statements.Cells.{is_named, hom_cells}
+use Rattle.topos_model.specs.statements.Cells.{hom_cells}
 use Rattle.topos_session.specs.Ranges.{declares}
-use Rattle.topos_session.specs.Built.{is_built}
-use Rattle.topos_model.specs.statements.Answers.{tuple_of, map_shape, functor_map}
+use Rattle.topos_model.specs.statements.Answers.{map_shape, functor_map}
 use Rattle.presheaf_core.specs.declared.fault.FunctorFault.{FunctorFault}
 use Rattle.presheaf_core.specs.declared.fault.FunctorFault.TheVariants.{RestrictionMissing, NotTotal, NotFunctorial, NoMemory}
 use Rattle.presheaf_core.specs.Faults.{IsFaultOf}
@@ -46,11 +38,10 @@ use Rattle.topos_session.specs.Functors.{functor_at}
 use Rattle.topos_session.specs.Declarations.{AreLawful, with_presheaf, with_map, with_cells}
 use Rattle.topos_session.specs.Constructions.{is_construction, between}
 use Rattle.topos_session.specs.Homs.{IsHom, IsUnlisted}
-use Rattle.topos_session.specs.Statements.{refusal_over, IsAnsweredOver, IsStoppedOver, IsOverBudget, by_types, by_answer, presheaf_stop, map_stop, store_stop}
-use Rattle.topos_session.proofs.StatementForms.{declares-Presheaf, declares-Map, declares-Hom, declares-Show}
-use Rattle.topos_session.proofs.LawfulDeclarations.{lawful_presheaf, lawful_map, lawful_cells, lawful_sealed}
+use Rattle.topos_session.specs.Statements.{refusal_over, IsAnsweredOver, IsStoppedOver, IsOverBudget, by_answer, presheaf_stop, map_stop, store_stop}
+use Rattle.topos_session.proofs.StatementForms.{declares-Presheaf, declares-Map, declares-Hom}
+use Rattle.topos_session.proofs.LawfulDeclarations.{lawful_presheaf, lawful_map, lawful_cells}
 use Rattle.topos_session.proofs.NoTypes.{needs-Presheaf, needs-Map, needs-Hom, sealed_already, types_free}
-use Rattle.sealed_world.proofs.Growing.{not_grown, grown_more, no_more, no_less}
 
 -- the counts of what a statement declares
 counts : (a b m n : ℕ) → ◌≡◌ {A = Option (ℕ × ℕ)} (Some (a, b)) (Some (m + a - m, n + b - n))

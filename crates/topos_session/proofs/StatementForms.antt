@@ -1,6 +1,5 @@
 -- The range of a statement's numbers, and what it declares, a form of statement at a time.
 use Rattle.std.proofs.Common.{◌≡◌, ℕ, ◌≤◌, true, ◌&&◌, eqb, ltb, List, Option, Some, None, refl, ap, arith}
-use Rattle.std.specs.List.{list_all}
 use Rattle.topos_model.specs.declared.raw.RawFunctor.{RawFunctor}
 use Rattle.topos_model.specs.declared.raw.RawMap.{RawMap}
 use Rattle.topos_model.specs.declared.context.Ctx.{Ctx}

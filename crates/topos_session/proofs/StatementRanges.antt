@@ -1,16 +1,12 @@
 -- What is in range of the numbers of a statement.
-use Rattle.std.proofs.Common.{◌≡◌, ℕ, ◌<◌, ◌≤◌, Bool, true, not, ◌&&◌, eqb, List, [], ◌∷◌, map, reverse, length, get_or, refl, sym, ap, ◌∙◌, subst, inl, inr}
-use Rattle.std.specs.List.{list_all}
+use Rattle.std.proofs.Common.{◌≡◌, ℕ, ◌<◌, ◌≤◌, true, not, ◌&&◌, eqb, List, [], ◌∷◌, map, length, get_or, refl, sym, ap, ◌∙◌, subst, inl, inr}
 use Rattle.std.proofs.lemmas.Bool.{and_parts, eqb-true, eq-eqb, leb-true, ltb-true, true≢false}
-use denote.Hole.Carrier
 use Rattle.finite_lists.specs.Members.{In, Distinct}
-use Rattle.finite_lists.proofs.Lists.{all_each, each_all, some_any, In-map_from}
+use Rattle.finite_lists.proofs.Lists.{all_each, some_any, In-map_from}
 use Rattle.topos_model.specs.declared.raw.RawAlong.{RawAlong}
 use Rattle.topos_model.specs.declared.raw.RawFunctor.{RawFunctor}
 use Rattle.topos_model.specs.declared.raw.RawEntry.{RawEntry}
 use Rattle.topos_model.specs.declared.raw.RawMap.{RawMap}
-use Rattle.topos_model.specs.declared.ty.Ty.{Ty, Base}
-use Rattle.topos_model.specs.declared.ty.Ty.TheBlock.{hidden-the_row-Ty-0}
 use Rattle.topos_model.specs.declared.context.Ctx.{Ctx}
 use Rattle.topos_model.specs.declared.term.Term.{Term}
 use Rattle.topos_model.specs.declared.stmt.Stmt.{Stmt}
@@ -18,8 +14,6 @@ use Rattle.topos_model.specs.declared.stmt.Stmt.TheVariants.{Presheaf, Map, Hom,
 use Rattle.topos_model.specs.categories.Category.{Category, dom, cod}
 use Rattle.topos_model.specs.presheaves.PresheafFaults.{IsPresheafListing}
 use Rattle.topos_model.specs.presheaves.MapFaults.{has_image, IsMapListing}
-use Rattle.topos_model.specs.statements.Needs.{named}
-use Rattle.topos_model.specs.statements.Cells.{is_named}
 use Rattle.topos_model.specs.statements.Form.{along_fits, is_presheaf_listing, is_map_listing}
 use Rattle.topos_session.specs.Ranges.{is_formula_in_range, is_in_range}
 use Rattle.topos_session.proofs.DistinctNumbers.{distinct_numbers}

@@ -1,5 +1,5 @@
 -- Worked examples, by computation: runs as far as the language is run.
-use Rattle.std.proofs.Common.{List, [], ◌∷◌, Some, refl, arith}
+use Rattle.std.proofs.Common.{[], ◌∷◌, Some, refl, arith}
 use Rattle.topos_model.specs.declared.ty.Ty.{Base, Omega}
 use Rattle.topos_model.specs.declared.term.Term.{Var}
 use Rattle.topos_model.specs.declared.doc.Doc.{Doc}

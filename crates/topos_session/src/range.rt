@@ -28,6 +28,7 @@ fn are_types_in_range(functors: u32, types: &[Ty]) -> bool
 }
 
 // Whether the functors that a formula and its context name, and the maps that it applies, are declared.
+#[tactic(auto, unfolding(crate::specs::Ranges::is_formula_in_range))]
 fn is_formula_in_range(counts: Counts, ctx: &Ctx, phi: &Term) -> bool
     ensures { result ≡ is_formula_in_range counts.functors counts.maps ctx.now phi.now }
 {

@@ -1,11 +1,6 @@
 use Rattle.std.proofs.lemmas.Result.{on_err_weaker}
 use Rattle.topos_session.proofs.LawfulDeclarations.{unchanged_kept}
-use Rattle.std.proofs.Common.{refl, sym, subst, ◌∙◌, length}
-use Rattle.topos_model.specs.declared.stmt.Stmt.{Stmt}
-use Rattle.topos_model.specs.declared.answer.Answer.TheVariants.{Shown}
-use Rattle.topos_session.specs.declared.stop.Stop.TheVariants.{Refused}
-use Rattle.topos_model.specs.declared.fault.Fault.TheVariants.{NotBuilt}
-use Rattle.topos_session.specs.Statements.{IsAnsweredOver, IsStoppedOver}
+use Rattle.std.proofs.Common.{refl, length}
 use Rattle.topos_session.proofs.StatementRanges.{listing_of, map_range, hom_range, formula_range, classified_range, judged_range}
 use Rattle.topos_session.proofs.StatementAnswers.{refused_other}
 use Rattle.topos_session.proofs.answer.answer.Goals as goal

@@ -1,7 +1,6 @@
 use Rattle.std.proofs.Common.{◌≡◌, ◌+◌, ◌≤◌, ℕ, subst, arith}
 use Rattle.std.proofs.lemmas.Result.{err_from_is_err_and}
-use Rattle.sealed_world.specs.SealedWorlds.{CountedWorld, world_cells}
-use Rattle.sealed_world.specs.SealedWorlds as world
+use Rattle.sealed_world.specs.SealedWorlds.{world_cells}
 use Rattle.topos_session.specs.declared.declarations.Declarations.{Declarations}
 use Rattle.topos_session.specs.Declarations.{with_functor}
 use Rattle.topos_session.proofs.MadeFunctors.{functor_made, functors_behind, maps_made, construction_answered, construction_stopped, construction_unstored}

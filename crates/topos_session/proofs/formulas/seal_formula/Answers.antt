@@ -1,12 +1,7 @@
-use Rattle.std.proofs.Common.{◌≡◌, ◌+◌, ◌<◌, ◌≤◌, true, ◌&&◌, eqb, length, List, Err, refl, sym, ap, subst, ◌∙◌, arith}
-use Rattle.std.specs.List.{flat_map}
+use Rattle.std.proofs.Common.{length, refl, sym, subst, ◌∙◌, arith}
 use Rattle.std.proofs.lemmas.Bool.{and_parts}
 use Rattle.std.proofs.lemmas.Result.{err_from_is_err_and}
-use Rattle.topos_model.specs.declared.ty.Ty.{Ty}
 use Rattle.topos_model.specs.Laws.{IsCategory, IsTopology}
-use Rattle.topos_model.specs.statements.Needs.{parts}
-use Rattle.sealed_functors.specs.Rows.{IsOverExactly}
-use Rattle.sealed_world.specs.SealedWorlds.{cells_with, IsGrownBy}
 use Rattle.topos_session.specs.Statements.{IsTyped}
 use Rattle.topos_session.proofs.LawfulDeclarations.{unchanged_kept}
 use Rattle.topos_session.proofs.FormulaAnswers.{formula_unbuilt, type_stops, types_over, types_named, formula_sealed}

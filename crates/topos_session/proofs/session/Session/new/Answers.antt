@@ -1,8 +1,7 @@
-use Rattle.std.proofs.Common.{◌≡◌, ◌+◌, ◌≤◌, ℕ, Bool, true, false, List, [], refl, sym, ap, ap₂, subst, ◌∙◌, arith}
+use Rattle.std.proofs.Common.{◌≡◌, ◌+◌, ◌≤◌, ℕ, Bool, true, false, List, [], refl, sym, ap, ◌∙◌, arith}
 use Rattle.topos_model.specs.categories.Category.{Category}
 use Rattle.topos_model.specs.topologies.Cover.{Site}
 use Rattle.topos_model.specs.declared.doc.Doc.{Doc}
-use Rattle.topos_model.specs.declared.doc.TopDecl.{TopDecl}
 use Rattle.topos_model.specs.declared.raw.Family.{Family}
 use Rattle.topos_model.specs.categories.Filling.{filled_category}
 use Rattle.topos_session.specs.Ranges.{is_trivial}

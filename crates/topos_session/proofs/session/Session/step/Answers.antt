@@ -6,7 +6,7 @@ use Rattle.topos_session.specs.Declarations.{HasNoCovers}
 use Rattle.topos_session.proofs.DocumentRanges.{ranges}
 use Rattle.topos_session.proofs.SiteRefusals.{no_covers}
 use Rattle.topos_session.proofs.StagedStatements.{answered_next, counted_behind_it, stopped_next}
-use Rattle.topos_session.proofs.SessionSteps.{next_in_range, goes_on, stops}
+use Rattle.topos_session.proofs.SessionSteps.{next_in_range, goes_on}
 use Rattle.topos_session.proofs.session.Session.step.Goals as goal
 
 pub answer-requires-clause-range : goal.answer-requires-clause-range
