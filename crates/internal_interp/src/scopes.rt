@@ -57,11 +57,7 @@ fn no_variables(alloc: Global, interpreter: &Interpreter<'_>) -> Result<Context,
 }
 
 // The context of one variable.
-fn one_variable(
-    alloc: Global,
-    interpreter: &Interpreter<'_>,
-    ty: &Ty,
-) -> Result<Context, NoMemory>
+fn one_variable(alloc: Global, interpreter: &Interpreter<'_>, ty: &Ty) -> Result<Context, NoMemory>
     requires known { (w : World) × (maps : List MapTy) × Knows w maps interpreter.now }
     requires held { Holds interpreter.now.store.now ty.now }
     ensures { IfOk result (λ context. (w : World) (maps : List MapTy) → Knows w maps interpreter.now → IsScope w maps interpreter.now (ty.now ∷ []) context) }

@@ -18,10 +18,9 @@ invariant_of-result c =
     let s = c.args.site in
     let objects = c.objects.ensures.count ∙ ap (λ (k : Category). k.objects) c.cat-3.ensures in
     let ends = c.in_ok-ends.ensures.ends ∙ ap (λ (k : Category). k.ends) c.cat-2.ensures in
-    let is = bare_is s c.new-2.result c.in_ok-store.store c.objects.result c.args.budget c.in_ok-ends.ends c.new-2.ensures c.in_ok-store.ensures.value objects ends in
-    (
+    let is = bare_is s c.new-2.result c.in_ok-store.store c.objects.result c.args.budget c.in_ok-ends.ends c.new-2.ensures c.in_ok-store.ensures.value objects ends in (
       subst IsInStore (sym is) (bare_in_store s c.args.budget),
-      no_values s (types_in c.in_ok-store.store) (ap (λ (v : CountedWorld). v.types) (ap seen is ∙ bare_seen s c.args.budget))
+      no_values s (types_in c.in_ok-store.store) (ap (λ (v : CountedWorld). v.types) (ap seen is ∙ bare_seen s c.args.budget)),
     )
 
 pub returns : goal.returns
