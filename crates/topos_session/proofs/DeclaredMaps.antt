@@ -1,8 +1,8 @@
 -- Declared maps, and formulas over declared functors, as the run sees them.
-use Rattle.std.proofs.Common.{◌≡◌, ℕ, ◌+◌, ◌<◌, Bool, true, not, ◌&&◌, List, [], ◌∷◌, ◌++◌, map, reverse, length, get_or, take, slice_get, is_none, Option, Some, None, refl, sym, ap, ◌∙◌, subst, arith}
+use Rattle.std.proofs.Common.{◌≡◌, ℕ, ◌+◌, ◌<◌, Bool, true, not, ◌&&◌, List, [], ◌∷◌, ◌++◌, map, reverse, length, get_or, take, slice_get, is_none, Option, Some, None, refl, sym, ap, ap₂, ◌∙◌, subst, arith}
 use Rattle.std.specs.List.{list_any, range_with_len}
 use Rattle.std.proofs.lemmas.Bool.{and_right, and_parts, eqb-true}
-use Rattle.std.proofs.lemmas.List.{map-append, length-map, take_more, get_or-map, ext_get_or}
+use Rattle.std.proofs.lemmas.List.{append-nil, map-append, length-map, take_more, get_or-map, ext_get_or}
 use Rattle.std.proofs.lemmas.List.FromFn.{length-map-range_with_len, get_or-map-range_with_len}
 use Rattle.topos_model.proofs.ValueEquations.{number_of-El}
 use Rattle.std.proofs.lemmas.Option.{get_or_from_slice_get, slice_get_within}
@@ -28,13 +28,13 @@ use Rattle.topos_model.specs.Laws.{IsCategory}
 use Rattle.topos_model.specs.presheaves.Maps.{Components}
 use Rattle.topos_model.specs.categories.Filling.{filled_category}
 use Rattle.topos_model.specs.topologies.Sheaves.{sheaf_fault}
-use Rattle.topos_model.specs.statements.Needs.{named, under, needs, terms_of, types_of, is_functor}
+use Rattle.topos_model.specs.statements.Needs.{named, under, needs, term_needs, terms_of, types_of, is_functor, first_no_sheaf}
 use Rattle.topos_model.specs.statements.StatementFaults.{foreign_map_fault, formula_fault, typing_fault}
 use Rattle.topos_model.specs.formulas.Forcing.{World, shown}
 use Rattle.topos_model.specs.statements.Declarations.{Declared, DeclaredMap, site_of, map_ends, world_under, functor_at, map_at, ends_at, domain_at, codomain_at, components_at, with_types}
 use Rattle.topos_model.specs.statements.Answers.{element_pairs, functor_map, unforced, classified}
 use Rattle.topos_model.specs.statements.Refusals.{foreign_refusal, sheaf_refusal, term_refusal, ends_fit, refusal}
-use Rattle.topos_session.specs.Ranges.{applies_none, is_formula_in_range, is_in_range, is_trivial}
+use Rattle.topos_session.specs.Ranges.{applies_none, is_formula_in_range, is_in_range}
 use Rattle.topos_session.specs.Built.{is_formula_built, is_built}
 use Rattle.topos_session.specs.Functors.{AreFunctors}
 use Rattle.topos_session.specs.declared.declarations.FunctorMap.{FunctorMap}
@@ -42,11 +42,9 @@ use Rattle.topos_session.specs.declared.declarations.Declarations.{Declarations}
 use Rattle.topos_session.specs.Declarations.{declared_map, with_counted, AreLawful, no_map}
 use Rattle.topos_session.specs.Declarations as session
 use Rattle.topos_session.specs.Progress.{declared_by}
-use Rattle.topos_session.specs.Statements.{formula_refusal}
+use Rattle.topos_session.specs.Statements.{no_sheaf_among, formula_refusal}
 use Rattle.formula_answers.specs.Formulas.{world_of}
-use Rattle.topos_session.proofs.FormulaStatements.{needs_same, applied_none, same_fault, same_shown, same_unforced, same_classified}
-use Rattle.topos_session.proofs.TrivialSites.{no_sheaf_fault}
-use Rattle.topos_session.proofs.SiteRefusals.{site_is}
+use Rattle.topos_session.proofs.FormulaStatements.{needs_same, applied_none, same_fault, same_needs, same_shown, same_unforced, same_classified}
 
 -- the images of elements that stand in pairs
 image_in : Val × Val → ℕ
@@ -108,7 +106,7 @@ next_types doc so i stmt objects ends n l next range built =
         ∙ ap (λ (s : Stmt). take i doc.stmts ++ s ∷ []) (get_or_from_slice_get doc.stmts i stmt stmt next)
 
 -- statements of a document whose maximal sieves alone cover, over what is declared, with the types that are counted
-module _ (doc : Doc) (trivial : is_trivial doc.tops ≡ true) (so : Declarations) (types : List (ℕ × List Ty)) where
+module _ (doc : Doc) (so : Declarations) (types : List (ℕ × List Ty)) where
   abbrev k : Category
   k = filled_category doc.cat
 
@@ -146,22 +144,15 @@ module _ (doc : Doc) (trivial : is_trivial doc.tops ≡ true) (so : Declarations
       (range_with_len 0 (length so.world.functors))
       (λ n i. ap (λ (l : List Ty). some_if (list_any (is_functor n) l && not (is_none (sheaf_fault (site_of doc (under stmt)) (functor_at d n)))) (NotASheaf n)) none)
 
-  -- where only the maximal sieves cover, each functor is a sheaf
-  module _ (lawful : IsCategory k) (are : AreFunctors k so.world.functors) where
-    is_sheaf : (m : ℕ) → m < length so.world.functors → is_none (sheaf_fault (site_of doc 0) (functor_at d m)) ≡ true
-    is_sheaf m low = rw (site_is doc k trivial refl, no_sheaf_fault k lawful (functor_at d m) (are m low)) refl
+  -- a presheaf that is no sheaf refuses a statement in the run as here
+  module _ (site : so.world.site ≡ site_of doc 0) where
+    sheaves_same : (stmt : Stmt) (needed : List Ty) → under stmt ≡ 0 → types_of (map_ends d) stmt ≡ needed → sheaf_refusal doc d stmt ≡ no_sheaf_among so.world needed
+    unfolding sheaf_refusal no_sheaf_among
+    sheaves_same stmt needed first are =
+        ap₂ (λ (j : ℕ) (l : List Ty). first_no_sheaf (λ n. is_none (sheaf_fault (site_of doc j) (functor_at d n))) (length so.world.functors) l) first are
+        ∙ ap (λ (s : Site). first_no_sheaf (λ n. is_none (sheaf_fault s (functor_at d n))) (length so.world.functors) needed) (sym site)
 
-    all_sheaves : (stmt : Stmt) → under stmt ≡ 0 → sheaf_refusal doc d stmt ≡ None
-    unfolding sheaf_refusal
-    all_sheaves stmt first =
-        first_none (λ m. some_if (list_any (is_functor m) (types_of (map_ends d) stmt) && not (is_none (sheaf_fault (site_of doc (under stmt)) (functor_at d m)))) (NotASheaf m))
-        (range_with_len 0 (length so.world.functors))
-        (λ m i.
-        let r = In-range_from 0 (length so.world.functors) m i in
-        ap (λ (b : Bool). some_if b (NotASheaf m))
-        (and_right (list_any (is_functor m) (types_of (map_ends d) stmt)) _ (ap not (ap (λ (j : ℕ). is_none (sheaf_fault (site_of doc j) (functor_at d m))) first ∙ is_sheaf m (omega (arith, r.1))))))
-
-    -- a formula that applies no map is refused for its types alone
+    -- a formula that applies no map is refused for its types, and for a presheaf that is no sheaf
     module _ (j : ℕ) (ctx : Ctx) (φ : Term) (range : is_formula_in_range (length so.world.functors) (length so.maps) ctx φ ≡ true) (built : is_formula_built j φ ≡ true) where
       abbrev Γ : List Ty
       Γ = reverse ctx.types
@@ -183,39 +174,39 @@ module _ (doc : Doc) (trivial : is_trivial doc.tops ≡ true) (so : Declarations
       no_foreign_map stmt terms = rw (terms, applied_none φ without_maps) refl
 
       -- the refusals that a statement about it has in turn
-      in_turn : (stmt : Stmt) → terms_of stmt ≡ (Γ, φ) ∷ [] → under stmt ≡ j → typing_fault (map_ends d) stmt ≡ or_else (formula_fault (map_ends d) (Γ, φ)) None → ends_fit doc d stmt ≡ true →
-          or_else (some_if (not (ends_fit doc d stmt)) NotParallel) (term_refusal doc d stmt) ≡ formula_refusal j ctx φ
+      in_turn : (stmt : Stmt) → terms_of stmt ≡ (Γ, φ) ∷ [] → types_of (map_ends d) stmt ≡ term_needs (map_ends d) Γ φ ++ [] → under stmt ≡ j → typing_fault (map_ends d) stmt ≡ or_else (formula_fault (map_ends d) (Γ, φ)) None
+          → ends_fit doc d stmt ≡ true → or_else (some_if (not (ends_fit doc d stmt)) NotParallel) (term_refusal doc d stmt) ≡ formula_refusal so.world j ctx φ
       unfolding term_refusal formula_refusal
-      in_turn stmt terms place typing fit =
-          rw (fit, no_foreign_map stmt terms, all_sheaves stmt (place ∙ first_topology), typing ∙ or_none (formula_fault (map_ends d) (Γ, φ)) ∙ same_fault (length so.world.functors) (length so.maps) ctx φ range without_maps (map_ends d), built)
-          (or_none (formula_fault [] (Γ, φ)))
+      in_turn stmt terms counted place typing fit =
+          let needed = counted ∙ append-nil (term_needs (map_ends d) Γ φ) ∙ same_needs (length so.world.functors) (length so.maps) ctx φ range without_maps (map_ends d) in
+          rw (fit, no_foreign_map stmt terms, sheaves_same stmt (term_needs [] Γ φ) (place ∙ first_topology) needed, typing ∙ or_none (formula_fault (map_ends d) (Γ, φ)) ∙ same_fault (length so.world.functors) (length so.maps) ctx φ range without_maps (map_ends d), built)
+          refl
 
-      pub show_refusal : refusal doc d (Show j ctx φ) ≡ formula_refusal j ctx φ
-      unfolding refusal terms_of under typing_fault ends_fit
-      show_refusal = in_turn (Show j ctx φ) refl refl refl refl
+      pub show_refusal : refusal doc d (Show j ctx φ) ≡ formula_refusal so.world j ctx φ
+      unfolding refusal terms_of types_of under typing_fault ends_fit
+      show_refusal = in_turn (Show j ctx φ) refl refl refl refl refl
 
-      pub classify_refusal : refusal doc d (Classify j ctx φ) ≡ formula_refusal j ctx φ
-      unfolding refusal terms_of under typing_fault ends_fit
-      classify_refusal = in_turn (Classify j ctx φ) refl refl refl refl
+      pub classify_refusal : refusal doc d (Classify j ctx φ) ≡ formula_refusal so.world j ctx φ
+      unfolding refusal terms_of types_of under typing_fault ends_fit
+      classify_refusal = in_turn (Classify j ctx φ) refl refl refl refl refl
 
-      pub valid_refusal : refusal doc d (Valid j ctx φ) ≡ formula_refusal j ctx φ
-      unfolding refusal terms_of under typing_fault ends_fit
-      valid_refusal = in_turn (Valid j ctx φ) refl refl refl refl
+      pub valid_refusal : refusal doc d (Valid j ctx φ) ≡ formula_refusal so.world j ctx φ
+      unfolding refusal terms_of types_of under typing_fault ends_fit
+      valid_refusal = in_turn (Valid j ctx φ) refl refl refl refl refl
 
       -- and means the same in the world of the statement
-      module _ (site : so.world.site ≡ site_of doc 0) where
-        abbrev pairs : List (List (List (Val × Val)))
-        pairs = map (λ (m : DeclaredMap). m.pairs) d.maps
+      abbrev pairs : List (List (List (Val × Val)))
+      pairs = map (λ (m : DeclaredMap). m.pairs) d.maps
 
-        world_is : world_under doc d j ≡ record { site = so.world.site; functors = so.world.functors; maps = pairs }
-        unfolding world_under
-        world_is = ap (λ (s : Site). record { site = s; functors = so.world.functors; maps = pairs }) (ap (site_of doc) first_topology ∙ sym site)
+      world_is : world_under doc d j ≡ record { site = so.world.site; functors = so.world.functors; maps = pairs }
+      unfolding world_under
+      world_is = ap (λ (s : Site). record { site = s; functors = so.world.functors; maps = pairs }) (ap (site_of doc) first_topology ∙ sym site)
 
-        pub shown_here : (c : ℕ) → shown (world_of so.world) Γ φ c ≡ shown (world_under doc d j) Γ φ c
-        shown_here c = sym (same_shown (length so.world.functors) (length so.maps) ctx φ range without_maps so.world.site so.world.functors pairs c) ∙ ap (λ (w : World). shown w Γ φ c) (sym world_is)
+      pub shown_here : (c : ℕ) → shown (world_of so.world) Γ φ c ≡ shown (world_under doc d j) Γ φ c
+      shown_here c = sym (same_shown (length so.world.functors) (length so.maps) ctx φ range without_maps so.world.site so.world.functors pairs c) ∙ ap (λ (w : World). shown w Γ φ c) (sym world_is)
 
-        pub unforced_here : (c : ℕ) → unforced (world_of so.world) Γ φ c ≡ unforced (world_under doc d j) Γ φ c
-        unforced_here c = sym (same_unforced (length so.world.functors) (length so.maps) ctx φ range without_maps so.world.site so.world.functors pairs c) ∙ ap (λ (w : World). unforced w Γ φ c) (sym world_is)
+      pub unforced_here : (c : ℕ) → unforced (world_of so.world) Γ φ c ≡ unforced (world_under doc d j) Γ φ c
+      unforced_here c = sym (same_unforced (length so.world.functors) (length so.maps) ctx φ range without_maps so.world.site so.world.functors pairs c) ∙ ap (λ (w : World). unforced w Γ φ c) (sym world_is)
 
-        pub classified_here : (c : ℕ) → classified (world_of so.world) Γ φ c ≡ classified (world_under doc d j) Γ φ c
-        classified_here c = sym (same_classified (length so.world.functors) (length so.maps) ctx φ range without_maps so.world.site so.world.functors pairs c) ∙ ap (λ (w : World). classified w Γ φ c) (sym world_is)
+      pub classified_here : (c : ℕ) → classified (world_of so.world) Γ φ c ≡ classified (world_under doc d j) Γ φ c
+      classified_here c = sym (same_classified (length so.world.functors) (length so.maps) ctx φ range without_maps so.world.site so.world.functors pairs c) ∙ ap (λ (w : World). classified w Γ φ c) (sym world_is)

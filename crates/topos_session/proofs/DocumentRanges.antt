@@ -1,5 +1,6 @@
 -- The parts of the range of a document.
 use Rattle.std.proofs.Common.{◌≡◌, ℕ, ◌+◌, ◌<◌, ◌≤◌, Bool, true, false, ◌&&◌, leb, List, [], ◌∷◌, length, get_or, drop, Option, Some, None, refl, ap, ◌∙◌, subst, add-one, arith}
+use Rattle.std.specs.List.{list_all}
 use Rattle.std.proofs.lemmas.Bool.{and_parts, leb-true}
 use Rattle.std.proofs.Math.Seq.{drop-cons}
 use Rattle.topos_model.specs.declared.stmt.Stmt.{Stmt}
@@ -7,7 +8,7 @@ use Rattle.topos_model.specs.declared.stmt.Stmt.TheVariants.{Presheaf, Map, Prod
 use Rattle.topos_model.specs.declared.doc.Doc.{Doc}
 use Rattle.topos_model.specs.categories.Listed.{all_ends}
 use Rattle.topos_model.specs.statements.Form.{is_category_listing}
-use Rattle.topos_session.specs.Ranges.{max_statements, is_in_range, declares, are_in_range, has_range}
+use Rattle.topos_session.specs.Ranges.{max_statements, is_topology_in_range, is_in_range, declares, are_in_range, has_range}
 
 no_right : (a b : Bool) → b ≡ false → (a && b) ≡ false
 no_right true b e = e
@@ -18,30 +19,36 @@ no_left a b e = rw e refl
 
 pub many_fail : (doc : Doc) → leb (doc.site_len + length doc.stmts) max_statements ≡ false → has_range doc ≡ false
 unfolding has_range
-many_fail doc many = no_left _ _ (no_left _ _ many)
+many_fail doc many = no_left _ _ (no_left _ _ (no_left _ _ many))
 
 pub category_fails : (doc : Doc) → is_category_listing doc.cat ≡ false → has_range doc ≡ false
 unfolding has_range
-category_fails doc category = no_left _ _ (no_right _ _ category)
+category_fails doc category = no_left _ _ (no_left _ _ (no_right _ _ category))
+
+pub topologies_fail : (doc : Doc) → list_all (is_topology_in_range (all_ends doc.cat)) doc.tops ≡ false → has_range doc ≡ false
+unfolding has_range
+topologies_fail doc topologies = no_left _ _ (no_right _ _ topologies)
 
 -- the statements decide where all else is in range
-pub statements_decide : (doc : Doc) → leb (doc.site_len + length doc.stmts) max_statements ≡ true → is_category_listing doc.cat ≡ true →
+pub statements_decide : (doc : Doc) → leb (doc.site_len + length doc.stmts) max_statements ≡ true → is_category_listing doc.cat ≡ true → list_all (is_topology_in_range (all_ends doc.cat)) doc.tops ≡ true →
     are_in_range doc.cat.objects (all_ends doc.cat) 0 0 doc.stmts ≡ has_range doc
 unfolding has_range
-statements_decide doc few category = rw (few, category) refl
+statements_decide doc few category topologies = rw (few, category, topologies) refl
 
 -- what is in range
 pub record HasRange (doc : Doc) : Type 0 where
   pub few : doc.site_len + length doc.stmts ≤ max_statements
   pub category : is_category_listing doc.cat ≡ true
+  pub topologies : list_all (is_topology_in_range (all_ends doc.cat)) doc.tops ≡ true
   pub statements : are_in_range doc.cat.objects (all_ends doc.cat) 0 0 doc.stmts ≡ true
 
 pub ranges : (doc : Doc) → has_range doc ≡ true → HasRange doc
 unfolding has_range
 ranges doc range =
     let (site, statements) = and_parts _ _ range in
-    let (few, category) = and_parts _ _ site in
-    record { few = leb-true _ _ few; category = category; statements = statements }
+    let (listed, topologies) = and_parts _ _ site in
+    let (few, category) = and_parts _ _ listed in
+    record { few = leb-true _ _ few; category = category; topologies = topologies; statements = statements }
 
 pub are_in_range-empty : (objects : ℕ) (ends : List (ℕ × ℕ)) (n l : ℕ) → are_in_range objects ends n l [] ≡ true
 unfolding are_in_range

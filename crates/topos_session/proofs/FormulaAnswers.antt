@@ -1,9 +1,14 @@
 -- Statements about a formula: why they are refused, what they count, and that they answer.
-use Rattle.std.proofs.Common.{◌≡◌, ℕ, ◌-◌, ◌<◌, ◌≤◌, true, false, ◌&&◌, eqb, inl, inr, List, [], reverse, length, flat_map, Option, Some, None, Ok, Err, refl, sym, ap, subst, ◌∙◌, arith}
-use Rattle.std.proofs.lemmas.Bool.{cases_lt}
+use Rattle.std.proofs.Common.{◌≡◌, ℕ, ◌-◌, ◌<◌, ◌≤◌, Bool, true, false, not, ◌&&◌, eqb, inl, inr, List, [], reverse, length, flat_map, is_none, Option, Some, None, Ok, Err, refl, sym, ap, subst, ◌∙◌, arith}
+use Rattle.std.proofs.lemmas.Bool.{cases_lt, cases_Bool, true≢false}
 use Rattle.std.proofs.lemmas.List.{append-nil}
 use denote.Hole.Carrier
+use Rattle.std.specs.List.{list_any, range_with_len}
 use Rattle.finite_lists.specs.Members.{In}
+use Rattle.finite_lists.specs.First.{some_if}
+use Rattle.finite_lists.proofs.Lists.{any_some, some_any}
+use Rattle.finite_lists.proofs.FirstAnswers.{first_same}
+use Rattle.topos_model.specs.topologies.Sheaves.{sheaf_fault}
 use Rattle.topos_model.specs.declared.ty.Ty.{Ty, Base, Omega}
 use Rattle.topos_model.specs.declared.ty.Ty.TheBlock.{hidden-the_row-Ty-0}
 use Rattle.topos_model.specs.declared.term.Term.{Term}
@@ -11,13 +16,13 @@ use Rattle.topos_model.specs.declared.context.Ctx.{Ctx}
 use Rattle.topos_model.specs.declared.stmt.Stmt.{Stmt}
 use Rattle.topos_model.specs.declared.stmt.Stmt.TheVariants.{Show, Classify, Valid}
 use Rattle.topos_model.specs.declared.answer.Answer.{Answer}
-use Rattle.topos_model.specs.declared.fault.Fault.TheVariants.{NotBuilt, Expected as ExpectedFault}
+use Rattle.topos_model.specs.declared.fault.Fault.TheVariants.{NotBuilt, NotASheaf, Expected as ExpectedFault}
 use Rattle.topos_model.specs.categories.Category.{Category}
 use Rattle.topos_model.specs.types.Types.{Presheaf}
 use Rattle.topos_model.specs.types.SameType.{same_type}
 use Rattle.topos_model.specs.Laws.{IsCategory, IsTopology}
 use Rattle.topos_model.specs.formulas.Typing.{typed}
-use Rattle.topos_model.specs.statements.Needs.{parts, needs, types_of, terms_of}
+use Rattle.topos_model.specs.statements.Needs.{parts, needs, types_of, terms_of, is_functor, first_no_sheaf}
 use Rattle.topos_model.specs.statements.StatementFaults.{formula_fault}
 use Rattle.functor_store.specs.declared.fault.StoreFault.{StoreFault}
 use Rattle.functor_store.specs.declared.fault.StoreFault.TheVariants.{Over, NoMemory as OutOfMemory}
@@ -32,17 +37,39 @@ use Rattle.topos_session.specs.declared.stop.Stop.{Stop}
 use Rattle.topos_session.specs.declared.stop.Stop.TheVariants as stop
 use Rattle.topos_session.specs.Ranges.{applies_none, declares, is_formula_in_range}
 use Rattle.topos_session.specs.Built.{is_formula_built}
-use Rattle.topos_session.specs.Functors.{AreFunctors}
-use Rattle.topos_session.specs.Declarations.{AreLawful, HasNoCovers}
-use Rattle.topos_session.specs.Statements.{formula_refusal, formula_needs, refusal_over, AnswersOver, IsTyped, IsTypeStop, IsFormulaSealed, IsFormulaStop, IsAnsweredOver, IsStoppedOver, by_types, type_stop, store_stop}
+use Rattle.topos_session.specs.Functors.{AreFunctors, functor_at}
+use Rattle.topos_session.specs.Declarations.{AreLawful}
+use Rattle.topos_session.specs.Statements.{no_sheaf_among, formula_refusal, formula_needs, refusal_over, AnswersOver, IsTyped, IsTypeStop, IsSheafStop, IsFormulaSealed, IsFormulaStop, IsAnsweredOver, IsStoppedOver, by_types, type_stop, store_stop}
 use Rattle.topos_session.proofs.FormulaStatements.{names_declared, needs_sheaves}
 use Rattle.topos_session.proofs.LawfulDeclarations.{lawful_sealed}
 
+-- what a test finds depends on the members alone
+any_same : {A : Type 0} (p : A → Bool) (xs ys : List A) → ((x : A) → In xs x → In ys x) → ((x : A) → In ys x → In xs x) → list_any p xs ≡ list_any p ys
+any_same p xs ys f g =
+    elim (cases_Bool (list_any p xs)) [
+      | inl t ↦ let (x, i, e) = any_some p xs t in t ∙ sym (some_any p ys x (f x i) e)
+      | inr none ↦ elim (cases_Bool (list_any p ys)) [
+        | inl t ↦ let (x, i, e) = any_some p ys t in absurd (true≢false (sym (some_any p xs x (g x i) e) ∙ none))
+        | inr e ↦ none ∙ sym e
+      ]
+    ]
+
+among_same : (w : CountedWorld) (xs ys : List Ty) → ((T : Ty) → In xs T → In ys T) → ((T : Ty) → In ys T → In xs T) → no_sheaf_among w xs ≡ no_sheaf_among w ys
+unfolding no_sheaf_among
+among_same w xs ys f g =
+    first_same (λ n. some_if (list_any (is_functor n) xs && not (is_none (sheaf_fault w.site (functor_at w.functors n)))) (NotASheaf n))
+    (λ n. some_if (list_any (is_functor n) ys && not (is_none (sheaf_fault w.site (functor_at w.functors n)))) (NotASheaf n)) (range_with_len 0 (length w.functors))
+    (λ n i. ap (λ (b : Bool). some_if (b && not (is_none (sheaf_fault w.site (functor_at w.functors n)))) (NotASheaf n)) (any_same (is_functor n) xs ys f g))
+
+found_none : (w : CountedWorld) (types : List Ty) → no_sheaf_among w types ≡ None → first_no_sheaf (λ n. is_none (sheaf_fault w.site (functor_at w.functors n))) (length w.functors) types ≡ None
+unfolding no_sheaf_among
+found_none w types e = e
+
 module _ (under : ℕ) (ctx : Ctx) (φ : Term) where
   -- why a formula is refused
-  pub formula_unbuilt : (eqb under 0 && applies_none φ) ≡ false → formula_refusal under ctx φ ≡ Some NotBuilt
+  pub formula_unbuilt : (w : CountedWorld) → (eqb under 0 && applies_none φ) ≡ false → formula_refusal w under ctx φ ≡ Some NotBuilt
   unfolding formula_refusal is_formula_built
-  formula_unbuilt e = rw e refl
+  formula_unbuilt w e = rw e refl
 
   pub typing_stops : (fault : TypeFault) → IsFaultOf (typed [] (reverse ctx.types) φ) fault → IsTypeStop ctx φ (type_stop fault)
   unfolding formula_fault
@@ -64,9 +91,10 @@ module _ (under : ℕ) (ctx : Ctx) (φ : Term) where
     type_stops so stop.Budget h = absurd h
     type_stops so stop.NoMemory h = tt
 
-    pub formula_accepted : typed [] (reverse ctx.types) φ ≡ Ok Omega → formula_refusal under ctx φ ≡ None
+    -- one that has none is refused for a presheaf that is no sheaf alone
+    well_typed : (w : CountedWorld) → typed [] (reverse ctx.types) φ ≡ Ok Omega → formula_refusal w under ctx φ ≡ no_sheaf_among w (formula_needs ctx φ)
     unfolding formula_refusal is_formula_built formula_fault same_type hidden-the_row-Ty-0 Carrier.hidden
-    formula_accepted typing = rw (built, typing) refl
+    well_typed w typing = rw (built, typing) refl
 
     module _ (so : Declarations) (types : List Ty) (is : IsTyped ctx φ types) where
       -- the types that are listed cost the same, with their parts
@@ -83,42 +111,54 @@ module _ (under : ℕ) (ctx : Ctx) (φ : Term) where
         all = λ T i u. grown.all T ((is.counted T).1 i) u;
       }
 
-      pub types_over : (fault : StoreFault) → IsOverExactly {A = Unit {0}} (Err fault) (so.world.budget < cells_with so.world (flat_map parts types)) → IsFormulaStop under ctx φ so (store_stop fault)
-      types_over Over over = (formula_accepted is.formula, omega (arith, over, same_cost))
-      types_over OutOfMemory over = tt
+      same_sheaves : (w : CountedWorld) → no_sheaf_among w (formula_needs ctx φ) ≡ no_sheaf_among w (flat_map parts types)
+      same_sheaves w = among_same w (formula_needs ctx φ) (flat_map parts types) (λ T i. (is.counted T).1 i) (λ T i. (is.counted T).0 i)
 
-      module _ (l : ℕ) (range : is_formula_in_range (length so.world.functors) l ctx φ ≡ true) (none : applies_none φ ≡ true) where
-        pub types_named : (n : ℕ) → In (flat_map parts types) (Base n) → n < length so.world.functors
-        types_named n i = names_declared (length so.world.functors) l ctx φ range none n ((is.counted (Base n)).0 i)
+      pub sheaf_stops : (s : Stop) → IsSheafStop so.world (flat_map parts types) s → IsFormulaStop under ctx φ so s
+      sheaf_stops (stop.Refused fault) h = well_typed so.world is.formula ∙ same_sheaves so.world ∙ h
+      sheaf_stops stop.Budget h = absurd h
+      sheaf_stops stop.NoMemory h = tt
 
-        pub formula_sealed : (mid : Declarations) → mid.maps ≡ so.maps → IsGrownBy (flat_map parts types) so.world mid.world → (so.world.budget < cells_with so.world (flat_map parts types) → ⊥)
-            → world_cells mid.world ≤ mid.world.budget → IsCategory so.world.site.category → IsTopology so.world.site → HasNoCovers so.world.site → AreFunctors so.world.site.category so.world.functors
-            → IsFormulaSealed under ctx φ so mid
-        formula_sealed mid maps grown fit within lawful top covers are =
-            let by = same_growth mid.world grown in
-            let site : mid.world.site ≡ so.world.site = ap (λ (w : CountedWorld). w.site) by.grown.is in
-            let functors : mid.world.functors ≡ so.world.functors = ap (λ (w : CountedWorld). w.functors) by.grown.is in
-            let budget : mid.world.budget ≡ so.world.budget = ap (λ (w : CountedWorld). w.budget) by.grown.is in
-            let named = names_declared (length so.world.functors) l ctx φ range none in
-            record {
-              accepted = formula_accepted is.formula;
-              maps = maps;
-              types = by;
-              types_fit = not_over same_cost fit;
-              within = omega (arith, within, budget);
-              formula = record {
-                typing = is.formula;
-                named = λ n i. subst (λ (fs : List Presheaf). n < length fs) (sym functors) (named n i);
-                counted = by.all;
-                sheaves = rw (site, functors) (needs_sheaves so.world.site lawful top covers so.world.functors are [] (reverse ctx.types) φ named);
-              };
-            }
-          where
-            not_over : {a b c : ℕ} → a ≡ b → (c < b → ⊥) → a ≤ c
-            not_over {a} {b} {c} e h = elim (cases_lt c b) [ inl over ↦ absurd (h over) | inr fits ↦ omega (arith, fits, e) ]
+      module _ (sheaves : no_sheaf_among so.world (flat_map parts types) ≡ None) where
+        accepted_here : formula_refusal so.world under ctx φ ≡ None
+        accepted_here = well_typed so.world is.formula ∙ same_sheaves so.world ∙ sheaves
+
+        pub types_over : (fault : StoreFault) → IsOverExactly {A = Unit {0}} (Err fault) (so.world.budget < cells_with so.world (flat_map parts types)) → IsFormulaStop under ctx φ so (store_stop fault)
+        types_over Over over = (accepted_here, omega (arith, over, same_cost))
+        types_over OutOfMemory over = tt
+
+        module _ (l : ℕ) (range : is_formula_in_range (length so.world.functors) l ctx φ ≡ true) (none : applies_none φ ≡ true) where
+          pub types_named : (n : ℕ) → In (flat_map parts types) (Base n) → n < length so.world.functors
+          types_named n i = names_declared (length so.world.functors) l ctx φ range none n ((is.counted (Base n)).0 i)
+
+          pub formula_sealed : (mid : Declarations) → mid.maps ≡ so.maps → IsGrownBy (flat_map parts types) so.world mid.world → (so.world.budget < cells_with so.world (flat_map parts types) → ⊥)
+              → world_cells mid.world ≤ mid.world.budget → IsCategory so.world.site.category → IsTopology so.world.site → AreFunctors so.world.site.category so.world.functors
+              → IsFormulaSealed under ctx φ so mid
+          formula_sealed mid maps grown fit within lawful top are =
+              let by = same_growth mid.world grown in
+              let site : mid.world.site ≡ so.world.site = ap (λ (w : CountedWorld). w.site) by.grown.is in
+              let functors : mid.world.functors ≡ so.world.functors = ap (λ (w : CountedWorld). w.functors) by.grown.is in
+              let budget : mid.world.budget ≡ so.world.budget = ap (λ (w : CountedWorld). w.budget) by.grown.is in
+              let named = names_declared (length so.world.functors) l ctx φ range none in
+              record {
+                accepted = accepted_here;
+                maps = maps;
+                types = by;
+                types_fit = not_over same_cost fit;
+                within = omega (arith, within, budget);
+                formula = record {
+                  typing = is.formula;
+                  named = λ n i. subst (λ (fs : List Presheaf). n < length fs) (sym functors) (named n i);
+                  counted = by.all;
+                  sheaves = rw (site, functors) (needs_sheaves so.world.site lawful top so.world.functors are [] (reverse ctx.types) φ named (found_none so.world (formula_needs ctx φ) (same_sheaves so.world ∙ sheaves)));
+                };
+              }
+            where
+              not_over : {a b c : ℕ} → a ≡ b → (c < b → ⊥) → a ≤ c
+              not_over {a} {b} {c} e h = elim (cases_lt c b) [ inl over ↦ absurd (h over) | inr fits ↦ omega (arith, fits, e) ]
 
 -- a statement about the formula
-module _ (k : Category) (so : Declarations) (under : ℕ) (ctx : Ctx) (φ : Term) (stmt : Stmt) (refusal_is : refusal_over k so stmt ≡ formula_refusal under ctx φ) (needs_are : needs [] stmt ≡ formula_needs ctx φ)
+module _ (k : Category) (so : Declarations) (under : ℕ) (ctx : Ctx) (φ : Term) (stmt : Stmt) (refusal_is : refusal_over k so stmt ≡ formula_refusal so.world under ctx φ) (needs_are : needs [] stmt ≡ formula_needs ctx φ)
     (none : declares stmt ≡ Some (0, 0)) where
   pub formula_stopped : (s : Stop) → IsFormulaStop under ctx φ so s → IsStoppedOver k so stmt s
   formula_stopped (stop.Refused fault) h = refusal_is ∙ h

@@ -1,10 +1,16 @@
--- Formulas that apply no map: what they mean and count is the same whatever maps are declared, and where only the maximal sieves cover, all their types are of sheaves.
-use Rattle.std.proofs.Common.{◌≡◌, ℕ, zero, suc, ◌<◌, true, false, not, inl, inr, List, [], ◌∷◌, ◌++◌, map, filter, length, reverse, None, Ok, refl, sym, ap, ap₂, subst, slice_index_or, arith}
+-- Formulas that apply no map: what they mean and count is the same whatever maps are declared; and where the presheaves that they name are sheaves, so are all their types.
+use Rattle.std.proofs.Common.{◌≡◌, ℕ, zero, suc, ◌<◌, Bool, true, false, not, inl, inr, List, [], ◌∷◌, ◌++◌, map, filter, length, reverse, None, Ok, refl, sym, ap, ap₂, subst, slice_index_or, arith}
+use Rattle.std.proofs.Common.{is_none}
 use Rattle.std.specs.List.{All, flat_map}
-use Rattle.std.proofs.lemmas.Bool.{and_parts}
+use Rattle.std.proofs.lemmas.Bool.{and_parts, eq-eqb}
 use Rattle.std.proofs.lemmas.List.{reverse-append}
 use Rattle.finite_lists.specs.Members.{In}
-use Rattle.finite_lists.proofs.Lists.{all_each, each_all, In-append_left, In-append_right, In-append_cases, In-flat_map, In-flat_map_from}
+use Rattle.finite_lists.specs.First.{some_if}
+use Rattle.finite_lists.proofs.FirstAnswers.{first_none_each, some_if-false}
+use Rattle.topos_model.specs.declared.fault.Fault.TheVariants.{NotASheaf}
+use denote.Hole.Carrier
+use Rattle.topos_model.specs.declared.ty.Ty.TheBlock.{hidden-the_row-Ty-0}
+use Rattle.finite_lists.proofs.Lists.{all_each, each_all, some_any, In-append_left, In-append_right, In-append_cases, In-flat_map, In-flat_map_from}
 use Rattle.topos_model.specs.declared.ty.Ty.{Ty, Base, One, Omega, Two', Pow', Fun', more_of-Ty as one, end_of-Ty as last}
 use Rattle.topos_model.specs.declared.term.Term.{Term, Pair', Fst', Snd', App', Eval', Lam', Compr', Eq', Member', And', Or', Implies', Not', Forall', Exists', Unique', more_of-Term as only, end_of-Term as end}
 use Rattle.topos_model.specs.declared.context.Ctx.{Ctx}
@@ -20,7 +26,7 @@ use Rattle.topos_model.specs.formulas.Typing.{typed, formula}
 use Rattle.topos_model.specs.formulas.Forcing.{World, Assigned, Meaning, meaning, values, tuples, shown}
 use Rattle.topos_model.specs.statements.Answers.{tuple_of, unforced, classified}
 use Rattle.topos_model.specs.types.Values.{arrows_of}
-use Rattle.topos_model.specs.statements.Needs.{parts, found, product, subterms, term_needs, terms_of, types_of, needs}
+use Rattle.topos_model.specs.statements.Needs.{parts, found, product, is_functor, first_no_sheaf, subterms, term_needs, terms_of, types_of, needs}
 use Rattle.topos_model.specs.statements.StatementFaults.{applied, formula_fault, fault_of}
 use Rattle.term_ranges.specs.Ranges.{is_type_in_range, is_term_in_range}
 use Rattle.term_ranges.proofs.StableTerms.{typed_stable, needs_stable}
@@ -29,9 +35,7 @@ use Rattle.term_ranges.proofs.StableMeanings.{meaning_stable}
 use Rattle.sheaf_test.proofs.LeastCoverFamilies.{faultless_sheaf}
 use Rattle.topos_session.specs.Ranges.{applies_none, is_formula_in_range, is_in_range}
 use Rattle.topos_session.specs.Built.{is_formula_built, is_built}
-use Rattle.topos_session.specs.Functors.{AreFunctors}
-use Rattle.topos_session.specs.Declarations.{HasNoCovers}
-use Rattle.topos_session.proofs.TrivialSites.{no_sheaf_fault}
+use Rattle.topos_session.specs.Functors.{AreFunctors, functor_at}
 
 -- where no map is applied, no map has to be declared
 module _ (n l : ℕ) where
@@ -179,6 +183,10 @@ needed_part maps Γ t U V i j =
     let (T, m, p) = In-flat_map_from parts counted U i in
     In-flat_map parts counted T V m (part_of_part T U V p j)
 
+is_functor-Base : (m : ℕ) → is_functor m (Base m) ≡ true
+unfolding hidden-the_row-Ty-0 Carrier.hidden
+is_functor-Base m = eq-eqb m m refl
+
 -- what holds of each member holds at each place
 All-more : {A : Type 0} (P : A → Type 0) (x : A) (xs : List A) → P x → All P xs → All P (x ∷ xs)
 All-more {A} P x xs h rest = at
@@ -191,20 +199,28 @@ All-members : {A : Type 0} (P : A → Type 0) (xs : List A) → ((x : A) → In 
 All-members P [] h = λ k d low. absurd (omega (arith, low))
 All-members P (x ∷ xs) h = All-more P x xs (h x (inl refl)) (All-members P xs (λ y i. h y (inr i)))
 
--- where only the maximal sieves cover
-module _ (s : Site) (lawful : IsCategory s.category) (top : IsTopology s) (covers : HasNoCovers s) (functors : List Presheaf) (are : AreFunctors s.category functors) where
-  site_without : s ≡ record { category = s.category; dense = false; families = [] }
-  site_without = ap₂ (λ dense families. record { category = s.category; dense = dense; families = families }) covers.0 covers.1
+-- where none of the presheaves that a term names has a fault as a sheaf
+module _ (s : Site) (lawful : IsCategory s.category) (top : IsTopology s) (functors : List Presheaf) (are : AreFunctors s.category functors) (maps : List MapTy) (Γ : List Ty) (t : Term)
+    (named : (m : ℕ) → In (term_needs maps Γ t) (Base m) → m < length functors)
+    (none : first_no_sheaf (λ n. is_none (sheaf_fault s (functor_at functors n))) (length functors) (term_needs maps Γ t) ≡ None) where
+  passes : (b c : Bool) → b ≡ true → (b && not c) ≡ false → c ≡ true
+  passes true true e f = refl
+  passes true false e f = cc
+  passes false c e f = cc
 
-  each_sheaf : (m : ℕ) → m < length functors → IsSheaf s (functor s functors m)
-  each_sheaf m low =
+  nothing_found : {A : Type 0} (o : Option A) → is_none o ≡ true → o ≡ None
+  nothing_found None e = refl
+  nothing_found (Some x) e = cc
+
+  each_sheaf : (m : ℕ) → In (term_needs maps Γ t) (Base m) → IsSheaf s (functor s functors m)
+  each_sheaf m i =
+      let low = named m i in
+      let one = first_none_each (λ n. some_if (list_any (is_functor n) (term_needs maps Γ t) && not (is_none (sheaf_fault s (functor_at functors n)))) (NotASheaf n)) (range_with_len 0 (length functors)) m none (In-range m (length functors) low) in
       faultless_sheaf s lawful top (functor s functors m) (are m low)
-      (subst (λ r. sheaf_fault r (functor s functors m) ≡ None) (sym site_without) (no_sheaf_fault s.category lawful (functor s functors m) (are m low)))
+      (nothing_found _ (passes (list_any (is_functor m) (term_needs maps Γ t)) _ (some_any (is_functor m) (term_needs maps Γ t) (Base m) i (is_functor-Base m)) (some_if-false _ _ one)))
 
-  pub needs_sheaves : (maps : List MapTy) (Γ : List Ty) (t : Term) → ((m : ℕ) → In (term_needs maps Γ t) (Base m) → m < length functors) → All (OfSheaves s functors) (term_needs maps Γ t)
-  needs_sheaves maps Γ t named =
-      All-members (OfSheaves s functors) (term_needs maps Γ t)
-      (λ T i. of_sheaves s functors T (λ m j. each_sheaf m (named m (needed_part maps Γ t T (Base m) i j))))
+  pub needs_sheaves : All (OfSheaves s functors) (term_needs maps Γ t)
+  needs_sheaves = All-members (OfSheaves s functors) (term_needs maps Γ t) (λ T i. of_sheaves s functors T (λ m j. each_sheaf m (needed_part maps Γ t T (Base m) i j)))
 
 -- what a statement counts does not depend on the maps
 pub needs_same : (maps : List MapTy) (objects : ℕ) (ends : List (ℕ × ℕ)) (n l : ℕ) (stmt : Stmt) → is_in_range objects ends n l stmt ≡ true → is_built stmt ≡ true → needs maps stmt ≡ needs [] stmt

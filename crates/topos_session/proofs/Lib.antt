@@ -10,7 +10,7 @@ pub mod LargeConstructions
 pub mod ShownFunctors
 pub mod MadeFunctors
 pub mod StatementAnswers
-pub mod TrivialSites
+pub mod DeclaredTopologies
 pub mod FormulaStatements
 pub mod FormulaAnswers
 pub mod SiteRefusals

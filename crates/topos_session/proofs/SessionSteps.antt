@@ -15,7 +15,7 @@ use Rattle.topos_model.specs.Laws.{IsFunctor}
 use Rattle.topos_model.specs.categories.Listed.{all_ends}
 use Rattle.topos_model.specs.categories.Filling.{filled_category}
 use Rattle.topos_model.specs.categories.CategoryFaults.{category_fault}
-use Rattle.topos_session.specs.Ranges.{is_in_range, declares, are_in_range, has_range, is_trivial}
+use Rattle.topos_session.specs.Ranges.{is_in_range, declares, are_in_range, has_range, is_single}
 use Rattle.topos_model.specs.declared.ty.Ty.{Ty}
 use Rattle.topos_model.specs.topologies.Cover.{Site}
 use Rattle.topos_model.specs.statements.Needs.{under, needs}
@@ -46,15 +46,15 @@ no_types doc = ap (λ (l : List Stmt). flat_map (λ (entry : ℕ × List Ty). en
     nothing [] = refl
     nothing (x ∷ l) = refl
 
-pub begins : (doc : Doc) (budget : ℕ) (world : CountedWorld) (maps : List FunctorMap) → has_range doc ≡ true → category_fault doc.cat ≡ None → is_trivial doc.tops ≡ true →
+pub begins : (doc : Doc) (budget : ℕ) (world : CountedWorld) (maps : List FunctorMap) → has_range doc ≡ true → category_fault doc.cat ≡ None → is_single doc.tops ≡ true →
     world ≡ bare_world (site_of doc 0) budget → maps ≡ [] → world_cells world ≤ world.budget → IsUnderWay doc (record { world = world; maps = maps }) 0 true
-begins doc budget world maps range faultless covers bare none fits =
+begins doc budget world maps range faultless single bare none fits =
     let so = none_declared (site_of doc 0) budget in
     let is : ◌≡◌ {A = Declarations} (record { world = world; maps = maps }) so = rw (bare, none) refl in
     subst (λ (x : Declarations). IsUnderWay doc x 0 true) (sym is) (record {
       range = range;
       faultless = faultless;
-      covers = covers;
+      single = single;
       site = refl;
       lawful = none_lawful (site_of doc 0).category (site_of doc 0) budget;
       within = omega arith;
@@ -106,7 +106,7 @@ module _ (doc : Doc) (so : Declarations) (i : ℕ) (live : Bool) (stmt : Stmt) (
       record {
         range = way.range;
         faultless = way.faultless;
-        covers = way.covers;
+        single = way.single;
         site = site ∙ way.site;
         lawful = subst (λ (s : Site). AreLawful s.category after) (sym site) lawful;
         within = omega (arith, low);
@@ -122,7 +122,7 @@ module _ (doc : Doc) (so : Declarations) (i : ℕ) (live : Bool) (stmt : Stmt) (
       subst (λ (x : Declarations). IsUnderWay doc x i false) (sym kept.is) (record {
         range = way.range;
         faultless = way.faultless;
-        covers = way.covers;
+        single = way.single;
         site = way.site;
         lawful = record { functors = way.lawful.functors; maps = way.lawful.maps };
         within = way.within;

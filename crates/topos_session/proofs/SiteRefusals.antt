@@ -1,10 +1,8 @@
 -- Why a document is refused before its statements, as far as the language is run.
-use Rattle.std.proofs.Common.{◌≡◌, ℕ, Bool, true, false, not, eqb, List, [], ◌∷◌, length, get_or, Some, None, refl, ap, arith}
+use Rattle.std.proofs.Common.{◌≡◌, ℕ, true, false, List, [], ◌∷◌, length, slice_get, Option, Some, None, refl, ap, ◌∙◌}
 use Rattle.std.specs.List.{range_with_len}
-use Rattle.std.proofs.lemmas.Bool.{and_parts, eqb-true}
-use Rattle.finite_lists.specs.Members.{In}
-use Rattle.finite_lists.proofs.DistinctLists.{In-range_from}
-use Rattle.finite_lists.proofs.FirstAnswers.{first_none}
+use Rattle.std.proofs.lemmas.Option.{get_or_from_slice_get}
+use Rattle.finite_lists.specs.First.{first, or_else}
 use Rattle.topos_model.specs.declared.doc.TopDecl.{TopDecl}
 use Rattle.topos_model.specs.declared.doc.Doc.{Doc}
 use Rattle.topos_model.specs.declared.fault.Fault.{Fault}
@@ -16,7 +14,7 @@ use Rattle.topos_model.specs.categories.CategoryFaults.{category_fault}
 use Rattle.topos_model.specs.topologies.TopologyFaults.{topology_fault, first_topology_fault}
 use Rattle.topos_model.specs.statements.Declarations.{category_of, site_of}
 use Rattle.topos_model.specs.statements.Refusals.{topologies_fault}
-use Rattle.topos_session.specs.Ranges.{has_range, is_trivial}
+use Rattle.topos_session.specs.Ranges.{has_range, is_single}
 use Rattle.topos_model.specs.statements.Run.{site_refusal, site_refused}
 use Rattle.topos_session.specs.Built.{today}
 use Rattle.topos_session.specs.StagedRun.{out_of_range, in_range}
@@ -26,51 +24,33 @@ use Rattle.fin_category.specs.Faults.{IsFaultOf}
 use Rattle.fin_category.proofs.FilledCategories.{faultless_category}
 use Rattle.fin_category.proofs.ListedNumbers.{within_if}
 use Rattle.topos_session.specs.declared.stop.SiteStop.TheVariants.{Refused}
-use Rattle.topos_model.specs.topologies.Cover.{Site}
-use Rattle.topos_session.specs.Declarations.{HasNoCovers}
-use Rattle.topos_session.specs.Steps.{IsSiteStop, category_stop}
+use Rattle.topologies.specs.declared.fault.TopFault.{TopFault}
+use Rattle.topologies.specs.declared.fault.TopFault.TheVariants.{NotStable, NotTransitive}
+use Rattle.topologies.specs.declared.fault.TopFault.TheVariants as topology
+use Rattle.topologies.specs.ListedFaults.{IsFaultOf as IsTopologyFaultOf}
+use Rattle.topos_session.specs.Topologies.{declared_site}
+use Rattle.topos_session.specs.Steps.{IsSiteStop, category_stop, topology_stop}
 use Rattle.topos_session.proofs.DocumentRanges.{ranges}
-use Rattle.topos_session.proofs.TrivialSites.{no_topology_fault}
 
-no_items : {A : Type 0} → (xs : List A) → eqb (length xs) 0 ≡ true → xs ≡ []
-no_items [] e = refl
-no_items (x ∷ xs) e = absurd (let h : length (x ∷ xs) ≡ 0 = eqb-true _ _ e in omega arith)
+pub one_topology : (tops : List TopDecl) → is_single tops ≡ true → length tops ≡ 1
+one_topology [] single = cc
+one_topology (top ∷ []) single = refl
+one_topology (top ∷ other ∷ rest) single = cc
 
-not_true : (b : Bool) → not b ≡ true → b ≡ false
-not_true true e = cc
-not_true false e = refl
-
--- where only the maximal sieves cover, the topology number 0 is listed and lists no cover
-trivial_site : (tops : List TopDecl) → is_trivial tops ≡ true →
-    (let top = get_or tops 0 (record { name = None; dense = false; covers = [] }) in (top.dense ≡ false) × (top.covers ≡ []))
-trivial_site [] trivial = cc
-trivial_site (top ∷ []) trivial = let (dense, covers) = and_parts _ _ trivial in (not_true top.dense dense, no_items top.covers covers)
-trivial_site (top ∷ other ∷ rest) trivial = cc
-
-pub one_topology : (tops : List TopDecl) → is_trivial tops ≡ true → length tops ≡ 1
-one_topology [] trivial = cc
-one_topology (top ∷ []) trivial = refl
-one_topology (top ∷ other ∷ rest) trivial = cc
-
-pub site_is : (doc : Doc) (k : Category) → is_trivial doc.tops ≡ true → k ≡ filled_category doc.cat → site_of doc 0 ≡ record { category = k; dense = false; families = [] }
+-- the site of a document is that of the topology that is declared first
+pub site_is : (doc : Doc) (k : Category) (top : TopDecl) → slice_get doc.tops 0 ≡ Some top → k ≡ filled_category doc.cat → site_of doc 0 ≡ declared_site k top
 unfolding site_of category_of
-site_is doc k trivial filled =
-    let (dense, covers) = trivial_site doc.tops trivial in
-    rw (filled, dense, covers) refl
+site_is doc k top here filled =
+    rw (filled, get_or_from_slice_get doc.tops 0 top (record { name = None; dense = false; covers = [] }) here) refl
 
-pub no_covers : (doc : Doc) → is_trivial doc.tops ≡ true → HasNoCovers (site_of doc 0)
-no_covers doc trivial = let e = site_is doc (filled_category doc.cat) trivial refl in (ap (λ (s : Site). s.dense) e, ap (λ (s : Site). s.families) e)
-
--- the maximal sieves alone are a topology
-no_topologies_fault : (doc : Doc) → IsCategory (filled_category doc.cat) → is_trivial doc.tops ≡ true → topologies_fault doc ≡ None
+-- where there is one topology, its first fault is that of all
+single_fault : (doc : Doc) → is_single doc.tops ≡ true → topologies_fault doc ≡ topology_fault (site_of doc 0) 0
 unfolding topologies_fault first_topology_fault
-no_topologies_fault doc lawful trivial = first_none (λ j. topology_fault (site_of doc j) j) (range_with_len 0 (length doc.tops)) (λ j i. at j (only j i))
+single_fault doc single = ap (λ n. first (λ j. topology_fault (site_of doc j) j) (range_with_len 0 n)) (one_topology doc.tops single) ∙ or_none (topology_fault (site_of doc 0) 0)
   where
-    only : (j : ℕ) → In (range_with_len 0 (length doc.tops)) j → j ≡ 0
-    only j i = let r = In-range_from 0 (length doc.tops) j i in let one = one_topology doc.tops trivial in omega (arith, r.1, one)
-
-    at : (j : ℕ) → j ≡ 0 → topology_fault (site_of doc j) j ≡ None
-    at j zero = rw (zero, site_is doc (filled_category doc.cat) trivial refl) (no_topology_fault (filled_category doc.cat) lawful 0)
+    or_none : (o : Option Fault) → or_else o None ≡ o
+    or_none None = refl
+    or_none (Some fault) = refl
 
 -- a category without a fault is one
 pub lawful_category : (doc : Doc) → has_range doc ≡ true → category_fault doc.cat ≡ None → IsCategory (filled_category doc.cat)
@@ -80,16 +60,27 @@ lawful_category doc range faultless =
 pub refused_range : (doc : Doc) → has_range doc ≡ false → IsSiteStop doc (Refused doc NotBuilt)
 refused_range doc range = (refl, λ budget. out_of_range range)
 
-pub accepted_site : (doc : Doc) → has_range doc ≡ true → category_fault doc.cat ≡ None → is_trivial doc.tops ≡ true → site_refusal today doc ≡ None
+pub accepted_site : (doc : Doc) → has_range doc ≡ true → category_fault doc.cat ≡ None → is_single doc.tops ≡ true → topology_fault (site_of doc 0) 0 ≡ None → site_refusal today doc ≡ None
 unfolding site_refusal
-accepted_site doc range faultless trivial = rw (faultless, trivial, no_topologies_fault doc (lawful_category doc range faultless) trivial) refl
+accepted_site doc range faultless single lawful = rw (faultless, single, single_fault doc single, lawful) refl
 
-covers_fail : (doc : Doc) → category_fault doc.cat ≡ None → is_trivial doc.tops ≡ false → site_refusal today doc ≡ Some NotBuilt
+tops_fail : (doc : Doc) → category_fault doc.cat ≡ None → is_single doc.tops ≡ false → site_refusal today doc ≡ Some NotBuilt
 unfolding site_refusal
-covers_fail doc faultless covers = rw (faultless, covers) refl
+tops_fail doc faultless tops = rw (faultless, tops) refl
 
-pub refused_covers : (doc : Doc) → has_range doc ≡ true → category_fault doc.cat ≡ None → is_trivial doc.tops ≡ false → IsSiteStop doc (Refused doc NotBuilt)
-refused_covers doc range faultless covers = (refl, λ budget. in_range range (site_refused (covers_fail doc faultless covers)))
+pub refused_tops : (doc : Doc) → has_range doc ≡ true → category_fault doc.cat ≡ None → is_single doc.tops ≡ false → IsSiteStop doc (Refused doc NotBuilt)
+refused_tops doc range faultless tops = (refl, λ budget. in_range range (site_refused (tops_fail doc faultless tops)))
+
+-- the one topology has a fault
+module _ (doc : Doc) (range : has_range doc ≡ true) (faultless : category_fault doc.cat ≡ None) (single : is_single doc.tops ≡ true) where
+  covers_fail : (fault : Fault) → topology_fault (site_of doc 0) 0 ≡ Some fault → site_refusal today doc ≡ Some fault
+  unfolding site_refusal
+  covers_fail fault fails = rw (faultless, single, single_fault doc single, fails) refl
+
+  pub refused_topology : (fault : TopFault) → IsTopologyFaultOf (site_of doc 0) fault → IsSiteStop doc (topology_stop doc fault)
+  refused_topology (NotStable at cover f) found = (refl, λ budget. in_range range (site_refused (covers_fail _ (found 0))))
+  refused_topology (NotTransitive at cover other) found = (refl, λ budget. in_range range (site_refused (covers_fail _ (found 0))))
+  refused_topology topology.NoMemory found = tt
 
 category_fails : (doc : Doc) (fault : Fault) → category_fault doc.cat ≡ Some fault → site_refusal today doc ≡ Some fault
 unfolding site_refusal

@@ -35,7 +35,7 @@ use Rattle.formula_answers.specs.Formulas.{world_of}
 use Rattle.topos_model.specs.statements.Declarations.{Declared, DeclaredMap, category_of, site_of, map_ends, world_under, functor_at, domain_at, codomain_at, components_at}
 use Rattle.topos_model.specs.statements.Answers.{tuple_of, unforced, classified, shape_of, map_shape, functor_map, Makes, Answers}
 use Rattle.topos_model.specs.statements.Refusals.{foreign_refusal, term_refusal, ends_fit, refusal, late_refusal, IsRefusal}
-use Rattle.topos_session.specs.Ranges.{is_in_range, is_trivial}
+use Rattle.topos_session.specs.Ranges.{is_in_range}
 use Rattle.topos_session.specs.Built.{is_formula_built, is_built}
 use Rattle.topos_session.specs.declared.declarations.FunctorMap.{FunctorMap}
 use Rattle.topos_session.specs.declared.declarations.Declarations.{Declarations}
@@ -47,7 +47,7 @@ use Rattle.topos_session.proofs.MadeFunctors.{equalizer_range, coequalizer_range
 use Rattle.topos_session.proofs.DeclaredMaps.{ends_are, domain_is, codomain_is, table_is, no_sheaf_asked, show_refusal, classify_refusal, valid_refusal, shown_here, unforced_here, classified_here}
 
 -- the refusals and the answers of the statements that are run
-module _ (doc : Doc) (trivial : is_trivial doc.tops ≡ true) (so : Declarations) (lawful : IsCategory (filled_category doc.cat)) (are : AreLawful (filled_category doc.cat) so)
+module _ (doc : Doc) (so : Declarations) (site : so.world.site ≡ site_of doc 0)
     (types : List (ℕ × List Ty)) where
   abbrev k : Category
   k = filled_category doc.cat
@@ -63,7 +63,7 @@ module _ (doc : Doc) (trivial : is_trivial doc.tops ≡ true) (so : Declarations
 
   unrefused : (stmt : Stmt) → types_of (map_ends d) stmt ≡ [] → foreign_refusal doc d stmt ≡ None → typing_fault (map_ends d) stmt ≡ None → term_refusal doc d stmt ≡ None
   unfolding term_refusal
-  unrefused stmt none foreign typing = rw (foreign, typing, no_sheaf_asked doc trivial so types stmt none) refl
+  unrefused stmt none foreign typing = rw (foreign, typing, no_sheaf_asked doc so types stmt none) refl
 
   fits : (b : Bool) → or_else (some_if (not b) NotParallel) None ≡ some_if (not b) NotParallel
   fits true = refl
@@ -76,23 +76,23 @@ module _ (doc : Doc) (trivial : is_trivial doc.tops ≡ true) (so : Declarations
   module _ (m n : ℕ) (first : m < length so.maps) (second : n < length so.maps) where
     parallel_fit : (z i : ℕ) → ends_fit doc d (Equalizer m n z i) ≡ fit k so (Equalizer m n z i)
     unfolding ends_fit is_named same_type hidden-the_row-Ty-0 Carrier.hidden
-    parallel_fit z i = rw (ends_are doc trivial so types m first, ends_are doc trivial so types n second) refl
+    parallel_fit z i = rw (ends_are doc so types m first, ends_are doc so types n second) refl
 
     coparallel_fit : (z i : ℕ) → ends_fit doc d (Coequalizer m n z i) ≡ fit k so (Coequalizer m n z i)
     unfolding ends_fit is_named same_type hidden-the_row-Ty-0 Carrier.hidden
-    coparallel_fit z i = rw (ends_are doc trivial so types m first, ends_are doc trivial so types n second) refl
+    coparallel_fit z i = rw (ends_are doc so types m first, ends_are doc so types n second) refl
 
     pullback_fit : (z p q : ℕ) → ends_fit doc d (Pullback m n z p q) ≡ fit k so (Pullback m n z p q)
     unfolding ends_fit is_named same_type hidden-the_row-Ty-0 Carrier.hidden
-    pullback_fit z p q = rw (ends_are doc trivial so types m first, ends_are doc trivial so types n second) refl
+    pullback_fit z p q = rw (ends_are doc so types m first, ends_are doc so types n second) refl
 
     pushout_fit : (z p q : ℕ) → ends_fit doc d (Pushout m n z p q) ≡ fit k so (Pushout m n z p q)
     unfolding ends_fit is_named same_type hidden-the_row-Ty-0 Carrier.hidden
-    pushout_fit z p q = rw (ends_are doc trivial so types m first, ends_are doc trivial so types n second) refl
+    pushout_fit z p q = rw (ends_are doc so types m first, ends_are doc so types n second) refl
 
   image_fit : (m z e j : ℕ) → m < length so.maps → ends_fit doc d (Image m z e j) ≡ true
   unfolding ends_fit is_named hidden-the_row-Ty-0 Carrier.hidden
-  image_fit m z e j low = rw (ends_are doc trivial so types m low) refl
+  image_fit m z e j low = rw (ends_are doc so types m low) refl
 
   -- a statement that is run is refused in the run as it is here
   pub refusal_is : (stmt : Stmt) → Ranged stmt → is_built stmt ≡ true → refusal doc d stmt ≡ refusal_over k so stmt
@@ -117,9 +117,9 @@ module _ (doc : Doc) (trivial : is_trivial doc.tops ≡ true) (so : Declarations
   refusal_is (Pushout m n z p q) range built =
       let w = pushout_range k.objects k.ends (length fs) (length so.maps) m n z p q range in
       same_fit _ (unrefused (Pushout m n z p q) refl refl refl) _ (pushout_fit m n w.first w.second z p q)
-  refusal_is (Show under ctx φ) range built = show_refusal doc trivial so types lawful are.functors under ctx φ range built
-  refusal_is (Classify under ctx φ) range built = classify_refusal doc trivial so types lawful are.functors under ctx φ range built
-  refusal_is (Valid under ctx φ) range built = valid_refusal doc trivial so types lawful are.functors under ctx φ range built
+  refusal_is (Show under ctx φ) range built = show_refusal doc so types site under ctx φ range built
+  refusal_is (Classify under ctx φ) range built = classify_refusal doc so types site under ctx φ range built
+  refusal_is (Valid under ctx φ) range built = valid_refusal doc so types site under ctx φ range built
   refusal_is _ range built = cc
 
   -- a statement that is run has its refusal for itself, and none that waits
@@ -237,30 +237,30 @@ module _ (doc : Doc) (trivial : is_trivial doc.tops ≡ true) (so : Declarations
     unfolding category_of
     hom_answers x y over = (over.0, ap (λ (so : Declarations). with_counted so types) over.1)
 
-    show_answers : (under : ℕ) (ctx : Ctx) (φ : Term) → Ranged (Show under ctx φ) → is_built (Show under ctx φ) ≡ true → so.world.site ≡ site_of doc 0 → AnswersOver k so (Show under ctx φ) answer after → Answers doc d (Show under ctx φ) answer next
+    show_answers : (under : ℕ) (ctx : Ctx) (φ : Term) → Ranged (Show under ctx φ) → is_built (Show under ctx φ) ≡ true → AnswersOver k so (Show under ctx φ) answer after → Answers doc d (Show under ctx φ) answer next
     unfolding category_of is_built is_in_range
-    show_answers under ctx φ range built site over = (
+    show_answers under ctx φ range built over = (
       over.0
           ∙ ap (Shown ctx) (map_same (λ c. map tuple_of (shown (world_of so.world) (reverse ctx.types) φ c)) (λ c. map tuple_of (shown (world_under doc d under) (reverse ctx.types) φ c)) (objects_of k)
-          (λ c i. ap (map tuple_of) (shown_here doc trivial so types lawful are.functors under ctx φ range built site c))),
+          (λ c i. ap (map tuple_of) (shown_here doc so types site under ctx φ range built c))),
       ap (λ (so : Declarations). with_counted so types) over.1,
     )
 
-    classify_answers : (under : ℕ) (ctx : Ctx) (φ : Term) → Ranged (Classify under ctx φ) → is_built (Classify under ctx φ) ≡ true → so.world.site ≡ site_of doc 0 → AnswersOver k so (Classify under ctx φ) answer after → Answers doc d (Classify under ctx φ) answer next
+    classify_answers : (under : ℕ) (ctx : Ctx) (φ : Term) → Ranged (Classify under ctx φ) → is_built (Classify under ctx φ) ≡ true → AnswersOver k so (Classify under ctx φ) answer after → Answers doc d (Classify under ctx φ) answer next
     unfolding category_of is_built is_in_range
-    classify_answers under ctx φ range built site over = (
+    classify_answers under ctx φ range built over = (
       over.0
           ∙ ap (Classified ctx) (map_same (classified (world_of so.world) (reverse ctx.types) φ) (classified (world_under doc d under) (reverse ctx.types) φ) (objects_of k)
-          (λ c i. (classified_here doc trivial so types lawful are.functors under ctx φ range built site c))),
+          (λ c i. (classified_here doc so types site under ctx φ range built c))),
       ap (λ (so : Declarations). with_counted so types) over.1,
     )
 
-    valid_answers : (under : ℕ) (ctx : Ctx) (φ : Term) → Ranged (Valid under ctx φ) → is_built (Valid under ctx φ) ≡ true → so.world.site ≡ site_of doc 0 → AnswersOver k so (Valid under ctx φ) answer after → Answers doc d (Valid under ctx φ) answer next
+    valid_answers : (under : ℕ) (ctx : Ctx) (φ : Term) → Ranged (Valid under ctx φ) → is_built (Valid under ctx φ) ≡ true → AnswersOver k so (Valid under ctx φ) answer after → Answers doc d (Valid under ctx φ) answer next
     unfolding category_of is_built is_in_range
-    valid_answers under ctx φ range built site over = (
+    valid_answers under ctx φ range built over = (
       over.0
           ∙ ap (Verdict ctx) (map_same (λ c. map tuple_of (unforced (world_of so.world) (reverse ctx.types) φ c)) (λ c. map tuple_of (unforced (world_under doc d under) (reverse ctx.types) φ c)) (objects_of k)
-          (λ c i. ap (map tuple_of) (unforced_here doc trivial so types lawful are.functors under ctx φ range built site c))),
+          (λ c i. ap (map tuple_of) (unforced_here doc so types site under ctx φ range built c))),
       ap (λ (so : Declarations). with_counted so types) over.1,
     )
 
@@ -279,13 +279,13 @@ module _ (doc : Doc) (trivial : is_trivial doc.tops ≡ true) (so : Declarations
     -- of one or two maps, by their ends and tables
     module _ (m : ℕ) (low : m < length so.maps) where
       abbrev dom_m : domain_at d m ≡ from k so m
-      dom_m = domain_is doc trivial so types m low
+      dom_m = domain_is doc so types m low
 
       abbrev cod_m : codomain_at d m ≡ to k so m
-      cod_m = codomain_is doc trivial so types m low
+      cod_m = codomain_is doc so types m low
 
       abbrev table_m : components_at d m ≡ (session.map_at so.maps m).map
-      table_m = table_is doc trivial so types m low
+      table_m = table_is doc so types m low
 
       image_answers : (z p q : ℕ) → Builds k so (Image m z p q) answer after → Answers doc d (Image m z p q) answer next
       unfolding category_of
@@ -304,13 +304,13 @@ module _ (doc : Doc) (trivial : is_trivial doc.tops ≡ true) (so : Declarations
 
       module _ (n : ℕ) (second : n < length so.maps) where
         abbrev dom_n : domain_at d n ≡ from k so n
-        dom_n = domain_is doc trivial so types n second
+        dom_n = domain_is doc so types n second
 
         abbrev cod_n : codomain_at d n ≡ to k so n
-        cod_n = codomain_is doc trivial so types n second
+        cod_n = codomain_is doc so types n second
 
         abbrev table_n : components_at d n ≡ (session.map_at so.maps n).map
-        table_n = table_is doc trivial so types n second
+        table_n = table_is doc so types n second
 
         abbrev s : Components
         s = (session.map_at so.maps m).map
@@ -381,27 +381,27 @@ module _ (doc : Doc) (trivial : is_trivial doc.tops ≡ true) (so : Declarations
             )
 
     -- a statement that is run answers in the run what it answers here
-    pub answers_are : (stmt : Stmt) → Ranged stmt → is_built stmt ≡ true → so.world.site ≡ site_of doc 0 → AnswersOver k so stmt answer after → Answers doc d stmt answer next
+    pub answers_are : (stmt : Stmt) → Ranged stmt → is_built stmt ≡ true → AnswersOver k so stmt answer after → Answers doc d stmt answer next
     unfolding is_built
-    answers_are (Presheaf functor raw) range built site over = presheaf_answers functor raw over
-    answers_are (Map m x y raw) range built site over = map_answers m x y raw over
-    answers_are (Hom x y) range built site over = hom_answers x y over
-    answers_are (Show under ctx φ) range built site over = show_answers under ctx φ range built site over
-    answers_are (Classify under ctx φ) range built site over = classify_answers under ctx φ range built site over
-    answers_are (Valid under ctx φ) range built site over = valid_answers under ctx φ range built site over
-    answers_are (Product x y z p q) range built site b = product_answers x y z p q b
-    answers_are (Coproduct x y z p q) range built site b = coproduct_answers x y z p q b
-    answers_are (Empty z) range built site b = empty_answers z b
-    answers_are (Image m z p q) range built site b = image_answers m (image_range k.objects k.ends (length fs) (length so.maps) m z p q range).1 z p q b
-    answers_are (Equalizer m n z i) range built site b =
+    answers_are (Presheaf functor raw) range built over = presheaf_answers functor raw over
+    answers_are (Map m x y raw) range built over = map_answers m x y raw over
+    answers_are (Hom x y) range built over = hom_answers x y over
+    answers_are (Show under ctx φ) range built over = show_answers under ctx φ range built over
+    answers_are (Classify under ctx φ) range built over = classify_answers under ctx φ range built over
+    answers_are (Valid under ctx φ) range built over = valid_answers under ctx φ range built over
+    answers_are (Product x y z p q) range built b = product_answers x y z p q b
+    answers_are (Coproduct x y z p q) range built b = coproduct_answers x y z p q b
+    answers_are (Empty z) range built b = empty_answers z b
+    answers_are (Image m z p q) range built b = image_answers m (image_range k.objects k.ends (length fs) (length so.maps) m z p q range).1 z p q b
+    answers_are (Equalizer m n z i) range built b =
         let w = equalizer_range k.objects k.ends (length fs) (length so.maps) m n z i range in equalizer_answers m w.first n w.second z i b
-    answers_are (Coequalizer m n z i) range built site b =
+    answers_are (Coequalizer m n z i) range built b =
         let w = coequalizer_range k.objects k.ends (length fs) (length so.maps) m n z i range in coequalizer_answers m w.first n w.second z i b
-    answers_are (Pullback m n z p q) range built site b =
+    answers_are (Pullback m n z p q) range built b =
         let w = pullback_range k.objects k.ends (length fs) (length so.maps) m n z p q range in pullback_answers m w.first n w.second z p q b
-    answers_are (Pushout m n z p q) range built site b =
+    answers_are (Pushout m n z p q) range built b =
         let w = pushout_range k.objects k.ends (length fs) (length so.maps) m n z p q range in pushout_answers m w.first n w.second z p q b
-    answers_are _ range built site over = absurd (true≢false (sym built))
+    answers_are _ range built over = absurd (true≢false (sym built))
 
 -- a statement that is run is under the first topology
 pub built_under : (stmt : Stmt) → is_built stmt ≡ true → under stmt ≡ 0

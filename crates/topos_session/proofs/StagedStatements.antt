@@ -38,7 +38,7 @@ use Rattle.topos_session.proofs.CellsSoFar.{cells_counted, types_with, counted_n
 -- the cells so far
 pub cells_are : (doc : Doc) (so : Declarations) (i : ℕ) (live : Bool) → IsUnderWay doc so i live → live ≡ true → world_cells so.world ≡ cells_so_far doc (declared_by doc so i)
 cells_are doc so i live way on =
-    sym (cells_counted doc so (types_by doc i) so.world.types (one_topology doc.tops way.covers) way.site (counted_same (types_under 0 (types_by doc i)) so.world (way.counted on)))
+    sym (cells_counted doc so (types_by doc i) so.world.types (one_topology doc.tops way.single) way.site (counted_same (types_under 0 (types_by doc i)) so.world (way.counted on)))
 
 -- one statement of a run that is under way
 module _ (doc : Doc) (so : Declarations) (i : ℕ) (way : IsUnderWay doc so i true) (stmt : Stmt) (next : slice_get doc.stmts i ≡ Some stmt) where
@@ -68,7 +68,7 @@ module _ (doc : Doc) (so : Declarations) (i : ℕ) (way : IsUnderWay doc so i tr
 
   module _ (accepted : refusal_over k so stmt ≡ None) where
     built : is_built stmt ≡ true
-    built = built_of doc way.covers so lawful declared_lawful here.types stmt accepted
+    built = built_of doc so way.site here.types stmt accepted
 
     first : under stmt ≡ 0
     first = built_under stmt built
@@ -80,16 +80,16 @@ module _ (doc : Doc) (so : Declarations) (i : ℕ) (way : IsUnderWay doc so i tr
     types_cost : cells_so_far doc (with_types here stmt) ≡ cells_with so.world (needs [] stmt)
     types_cost =
         ap (cells_so_far doc) with_its
-        ∙ cells_counted doc so behind (so.world.types ++ needs [] stmt) (one_topology doc.tops way.covers) way.site (types_with doc so.world i stmt next first (way.counted refl))
+        ∙ cells_counted doc so behind (so.world.types ++ needs [] stmt) (one_topology doc.tops way.single) way.site (types_with doc so.world i stmt next first (way.counted refl))
 
     unrefused : IsRefusal doc here stmt None
-    unrefused = as_refusal doc way.covers so lawful declared_lawful here.types stmt None built (refusal_is doc way.covers so lawful declared_lawful here.types stmt range built ∙ accepted)
+    unrefused = as_refusal doc so way.site here.types stmt None built (refusal_is doc so way.site here.types stmt range built ∙ accepted)
 
     counted_types : cells_with so.world (needs [] stmt) ≤ budget → IsCounted today doc budget here stmt
     counted_types fit = record { is_run = built; accepted = unrefused; within = subst (λ n. n ≤ budget) (sym types_cost) fit }
 
     goes_on : late_refusal doc (with_types here stmt) stmt ≡ None
-    goes_on = subst (λ (d : Declared). late_refusal doc d stmt ≡ None) (sym with_its) (no_late_refusal doc way.covers so lawful declared_lawful here.types stmt behind built)
+    goes_on = subst (λ (d : Declared). late_refusal doc d stmt ≡ None) (sym with_its) (no_late_refusal doc so way.site here.types stmt behind built)
 
     module _ (mid : Declarations) (sealed : AreSealedFor stmt so mid) where
       functors_same : mid.world.functors ≡ so.world.functors
@@ -108,7 +108,7 @@ module _ (doc : Doc) (so : Declarations) (i : ℕ) (way : IsUnderWay doc so i tr
       answers : (answer : Answer) (after : Declarations) → AnswersOver k mid stmt answer after → Answers doc (with_types here stmt) stmt answer (declared_by doc after (i + 1))
       answers answer after over =
           subst (λ (d : Declared). Answers doc d stmt answer (declared_by doc after (i + 1))) (mid_same ∙ sym with_its)
-          (answers_are doc way.covers mid lawful mid_lawful behind answer after stmt mid_range built (ap (λ (w : CountedWorld). w.site) sealed.types.grown.is ∙ way.site) over)
+          (answers_are doc mid (ap (λ (w : CountedWorld). w.site) sealed.types.grown.is ∙ way.site) behind answer after stmt mid_range built over)
 
       -- behind the statement exactly its types and those before are sealed
       pub counted_after : (after : Declarations) → after.world.types ≡ mid.world.types → AreCounted (types_under 0 behind) after.world
@@ -118,7 +118,7 @@ module _ (doc : Doc) (so : Declarations) (i : ℕ) (way : IsUnderWay doc so i tr
 
       costs : (after : Declarations) → after.world.site ≡ so.world.site → after.world.types ≡ mid.world.types → cells_so_far doc (declared_by doc after (i + 1)) ≡ world_cells after.world
       costs after site types =
-          cells_counted doc after behind after.world.types (one_topology doc.tops way.covers) (site ∙ way.site) (counted_same (types_under 0 behind) after.world (counted_after after types))
+          cells_counted doc after behind after.world.types (one_topology doc.tops way.single) (site ∙ way.site) (counted_same (types_under 0 behind) after.world (counted_after after types))
 
   pub answered_here : (answer : Answer) (after : Declarations) → IsAnsweredOver k so stmt answer after → IsAnswered today doc budget here stmt answer (declared_by doc after (i + 1))
   answered_here answer after over = record {
@@ -131,9 +131,9 @@ module _ (doc : Doc) (so : Declarations) (i : ℕ) (way : IsUnderWay doc so i tr
   pub refused_here : (fault : Fault) → refusal_over k so stmt ≡ Some fault → IsRefused today doc budget here stmt fault
   refused_here fault found =
       elim (cases_Bool (is_built stmt)) [
-        | inl built ↦ at_once built (as_refusal doc way.covers so lawful declared_lawful here.types stmt (Some fault) built (refusal_is doc way.covers so lawful declared_lawful here.types stmt range built ∙ found))
+        | inl built ↦ at_once built (as_refusal doc so way.site here.types stmt (Some fault) built (refusal_is doc so way.site here.types stmt range built ∙ found))
         | inr out ↦ subst (IsRefused today doc budget here stmt)
-            (ap (λ (o : Option Fault). elim o [ Some f ↦ f | None ↦ NotBuilt ]) (sym (not_built_of doc way.covers so lawful declared_lawful here.types stmt out) ∙ found)) (not_built out)
+            (ap (λ (o : Option Fault). elim o [ Some f ↦ f | None ↦ NotBuilt ]) (sym (not_built_of doc so way.site here.types stmt out) ∙ found)) (not_built out)
       ]
 
   pub over_here : IsOverBudget k so stmt → IsOver today doc budget here stmt

@@ -4,7 +4,7 @@ use Rattle.topos_model.specs.declared.term.Term.{Term}
 use Rattle.topos_model.specs.declared.stmt.Stmt.{Stmt}
 use Rattle.topos_model.specs.declared.stmt.Stmt.TheVariants.{Presheaf, Map, Product, Coproduct, Equalizer, Coequalizer, Pullback, Pushout, Image, Empty, Hom, Show, Classify, Valid}
 use Rattle.topos_model.specs.statements.Run.{Extent}
-use Rattle.topos_session.specs.Ranges.{is_trivial, applies_none}
+use Rattle.topos_session.specs.Ranges.{is_single, applies_none}
 
 -- under the first topology, and without maps
 unfoldable pub is_formula_built : ℕ → Term → Bool
@@ -28,6 +28,6 @@ is_built (Classify under ctx φ) = is_formula_built under φ
 is_built (Valid under ctx φ) = is_formula_built under φ
 is_built _ = false
 
--- no covers but the maximal ones
+-- one topology
 abbrev pub today : Extent
-today = record { statements = is_built; topologies = is_trivial }
+today = record { statements = is_built; topologies = is_single }

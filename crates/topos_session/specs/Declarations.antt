@@ -1,5 +1,5 @@
 -- What the statements so far have declared, as the run sees it.
-use Rattle.std.specs.Prelude.{◌≡◌, ℕ, ◌<◌, false, List, [], ◌∷◌, ◌++◌, map, length, get_or}
+use Rattle.std.specs.Prelude.{◌≡◌, ℕ, ◌<◌, List, [], ◌∷◌, ◌++◌, map, length, get_or}
 use Rattle.topos_model.specs.declared.ty.Ty.{Ty}
 use Rattle.topos_model.specs.categories.Category.{Category}
 use Rattle.topos_model.specs.types.Types.{Presheaf}
@@ -16,10 +16,6 @@ use Rattle.topos_session.specs.Functors.{AreFunctors, functor_at}
 -- a map as the run declares it
 abbrev pub declared_map : FunctorMap → DeclaredMap
 declared_map m = functor_map m.dom m.cod m.map
-
--- only the maximal sieves cover
-abbrev pub HasNoCovers : Site → Type 0
-HasNoCovers s = (s.dense ≡ false) × (s.families ≡ [])
 
 -- what is declared, with the types that are counted
 abbrev pub with_counted : Declarations → List (ℕ × List Ty) → Declared

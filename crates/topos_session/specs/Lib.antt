@@ -1,5 +1,6 @@
 pub mod Ranges
 pub mod Built
+pub mod Topologies
 pub mod StagedRun
 pub mod Functors
 pub mod Declarations

@@ -8,7 +8,7 @@ use Rattle.topos_model.specs.categories.CategoryFaults.{category_fault}
 use Rattle.topos_model.specs.statements.Needs.{under, needs}
 use Rattle.topos_model.specs.statements.Cells.{is_named, types_under}
 use Rattle.topos_model.specs.statements.Declarations.{Declared, site_of}
-use Rattle.topos_session.specs.Ranges.{are_in_range, has_range, is_trivial}
+use Rattle.topos_session.specs.Ranges.{are_in_range, has_range, is_single}
 use Rattle.sealed_world.specs.SealedWorlds.{CountedWorld, world_cells}
 use Rattle.topos_session.specs.declared.declarations.Declarations.{Declarations}
 use Rattle.topos_session.specs.Declarations.{with_counted, AreLawful}
@@ -38,7 +38,7 @@ pub record AreCounted (types : List Ty) (w : CountedWorld) : Type 0 where
 pub record IsUnderWay (doc : Doc) (so : Declarations) (answered : ℕ) (live : Bool) : Type 0 where
   pub range : has_range doc ≡ true
   pub faultless : category_fault doc.cat ≡ None
-  pub covers : is_trivial doc.tops ≡ true
+  pub single : is_single doc.tops ≡ true
   pub site : so.world.site ≡ site_of doc 0
   pub lawful : AreLawful so.world.site.category so
   pub within : answered ≤ length doc.stmts

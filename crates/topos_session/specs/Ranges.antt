@@ -1,10 +1,11 @@
 -- Documents whose numbers are in range, as far as the statements need it that are run.
-use Rattle.std.specs.Prelude.{ℕ, ◌+◌, Bool, true, false, ◌&&◌, not, List, [], ◌∷◌, length, eqb, ltb, leb, Option, Some, None}
+use Rattle.std.specs.Prelude.{ℕ, ◌+◌, Bool, true, false, cond, ◌&&◌, List, [], ◌∷◌, length, get_or, eqb, ltb, leb, Option, Some, None}
 use Rattle.std.specs.List.{list_all}
 use Rattle.topos_model.specs.declared.context.Ctx.{Ctx}
 use Rattle.topos_model.specs.declared.term.Term.{Term, Pair', Fst', Snd', App', Eval', Lam', Compr', Eq', Member', And', Or', Implies', Not', Forall', Exists', Unique', more_of-Term as only, end_of-Term as end}
 use Rattle.topos_model.specs.declared.stmt.Stmt.{Stmt}
 use Rattle.topos_model.specs.declared.stmt.Stmt.TheVariants.{Presheaf, Map, Product, Coproduct, Equalizer, Coequalizer, Pullback, Pushout, Image, Empty, Hom, Show, Classify, Valid}
+use Rattle.topos_model.specs.declared.raw.Family.{Family}
 use Rattle.topos_model.specs.declared.doc.TopDecl.{TopDecl}
 use Rattle.topos_model.specs.declared.doc.Doc.{Doc}
 use Rattle.topos_model.specs.categories.Listed.{all_ends}
@@ -76,10 +77,21 @@ are_in_range objects ends n l [] = true
 are_in_range objects ends n l (stmt ∷ rest) =
     elim (declares stmt) [ Some made ↦ is_in_range objects ends n l stmt && are_in_range objects ends (n + made.0) (l + made.1) rest | None ↦ true ]
 
--- only the maximal sieves cover
-abbrev pub is_trivial : List TopDecl → Bool
-is_trivial (top ∷ []) = not top.dense && eqb (length top.covers) 0
-is_trivial _ = false
+-- there is one topology
+abbrev pub is_single : List TopDecl → Bool
+is_single (top ∷ []) = true
+is_single _ = false
+
+-- the arrows of a listed family go into its object
+abbrev pub goes_into : List (ℕ × ℕ) → ℕ → ℕ → Bool
+goes_into ends c f = ltb f (length ends) && eqb (get_or ends f (0, 0)).1 c
+
+abbrev pub is_family_in_range : List (ℕ × ℕ) → Family → Bool
+is_family_in_range ends family = list_all (goes_into ends family.at) family.arrows
+
+-- those of a topology do, and beside the dense topology none is listed
+unfoldable pub is_topology_in_range : List (ℕ × ℕ) → TopDecl → Bool
+is_topology_in_range ends top = cond top.dense (eqb (length top.covers) 0) (list_all (is_family_in_range ends) top.covers)
 
 -- how many statements a document may have, those of its site among them
 abbrev pub max_statements : ℕ
@@ -88,5 +100,5 @@ max_statements = 10000
 -- of a whole document
 unfoldable pub has_range : Doc → Bool
 has_range doc =
-    leb (doc.site_len + length doc.stmts) max_statements && is_category_listing doc.cat
+    leb (doc.site_len + length doc.stmts) max_statements && is_category_listing doc.cat && list_all (is_topology_in_range (all_ends doc.cat)) doc.tops
     && are_in_range doc.cat.objects (all_ends doc.cat) 0 0 doc.stmts

@@ -1,5 +1,5 @@
 -- What the statements that are run answer over declared functors and maps, and why they are refused.
-use Rattle.std.specs.Prelude.{◌≡◌, ◌↔◌, ℕ, ◌-◌, ◌≤◌, ◌<◌, true, false, not, List, [], map, reverse, length, flat_map, Option, Some, None, Ok, ⊤}
+use Rattle.std.specs.Prelude.{◌≡◌, ◌↔◌, ℕ, ◌-◌, ◌≤◌, ◌<◌, true, false, not, List, [], map, reverse, length, flat_map, is_none, Option, Some, None, Ok, ⊤}
 use Rattle.finite_lists.specs.First.{or_else, some_if}
 use Rattle.topos_model.specs.declared.stmt.Stmt.{Stmt}
 use Rattle.topos_model.specs.declared.stmt.Stmt.TheVariants as statement
@@ -13,7 +13,7 @@ use Rattle.functor_store.specs.declared.fault.StoreFault.{StoreFault}
 use Rattle.functor_store.specs.declared.fault.StoreFault.TheVariants as store_fault
 use Rattle.natural_maps.specs.declared.fault.MapFault.{MapFault}
 use Rattle.natural_maps.specs.declared.fault.MapFault.TheVariants as map_fault
-use Rattle.sealed_world.specs.SealedWorlds.{world_cells, cells_with, IsGrownBy}
+use Rattle.sealed_world.specs.SealedWorlds.{CountedWorld, world_cells, cells_with, IsGrownBy}
 use Rattle.topos_session.specs.declared.stop.Stop.{Stop}
 use Rattle.topos_session.specs.declared.stop.Stop.TheVariants as stop
 use Rattle.topos_session.specs.declared.declarations.FunctorMap.{FunctorMap}
@@ -24,6 +24,7 @@ use Rattle.topos_model.specs.declared.context.Ctx.{Ctx}
 use Rattle.topos_model.specs.declared.term.Term.{Term}
 use Rattle.topos_model.specs.declared.ty.Ty.{Ty, Omega}
 use Rattle.finite_lists.specs.Members.{In}
+use Rattle.topos_model.specs.topologies.Sheaves.{sheaf_fault}
 use Rattle.topos_model.specs.formulas.Typing.{typed}
 use Rattle.topos_model.specs.formulas.Forcing.{shown}
 use Rattle.topos_model.specs.statements.StatementFaults.{formula_fault}
@@ -34,7 +35,7 @@ use Rattle.topos_model.specs.categories.Filling.{filled_presheaf}
 use Rattle.topos_model.specs.presheaves.NaturalMaps.{maps}
 use Rattle.topos_model.specs.presheaves.PresheafFaults.{presheaf_fault as fault_of_presheaf}
 use Rattle.topos_model.specs.presheaves.MapFaults.{listed_map, map_fault as fault_of_map}
-use Rattle.topos_model.specs.statements.Needs.{needs, parts, term_needs}
+use Rattle.topos_model.specs.statements.Needs.{needs, parts, term_needs, first_no_sheaf}
 use Rattle.topos_model.specs.statements.Cells.{objects_of, hom_cells}
 use Rattle.topos_model.specs.statements.Answers.{tuple_of, unforced, classified, shape_of, map_shape, functor_map}
 use Rattle.topos_session.specs.Ranges.{declares}
@@ -94,9 +95,15 @@ AnswersOver k so (statement.Valid under ctx φ) answer after =
     (answer ≡ Verdict ctx (map (λ c. map tuple_of (unforced (world_of so.world) (reverse ctx.types) φ c)) (objects_of k))) × (after ≡ so)
 AnswersOver k so stmt answer after = Builds k so stmt answer after
 
--- a formula that is not run is refused, and then one that has a fault of types or is of another type than truth values
-unfoldable pub formula_refusal : ℕ → Ctx → Term → Option Fault
-formula_refusal under ctx φ = or_else (some_if (not (is_formula_built under φ)) refused.NotBuilt) (formula_fault [] (reverse ctx.types, φ))
+-- the first presheaf that occurs in types and is no sheaf
+unfoldable pub no_sheaf_among : CountedWorld → List Ty → Option Fault
+no_sheaf_among w types = first_no_sheaf (λ n. is_none (sheaf_fault w.site (functor_at w.functors n))) (length w.functors) types
+
+-- a formula that is not run is refused, then one that has a fault of types or is of another type than truth values, and then one that speaks of a presheaf that is no sheaf
+unfoldable pub formula_refusal : CountedWorld → ℕ → Ctx → Term → Option Fault
+formula_refusal w under ctx φ =
+    or_else (some_if (not (is_formula_built under φ)) refused.NotBuilt)
+    (or_else (formula_fault [] (reverse ctx.types, φ)) (no_sheaf_among w (term_needs [] (reverse ctx.types) φ)))
 
 -- the types that a formula counts
 abbrev pub formula_needs : Ctx → Term → List Ty
@@ -107,9 +114,9 @@ abbrev pub refusal_over : Category → Declarations → Stmt → Option Fault
 refusal_over k so (statement.Presheaf functor raw) = fault_of_presheaf k raw
 refusal_over k so (statement.Map m x y raw) = fault_of_map k (functor_at so.world.functors x) (functor_at so.world.functors y) raw
 refusal_over k so (statement.Hom x y) = None
-refusal_over k so (statement.Show under ctx φ) = formula_refusal under ctx φ
-refusal_over k so (statement.Classify under ctx φ) = formula_refusal under ctx φ
-refusal_over k so (statement.Valid under ctx φ) = formula_refusal under ctx φ
+refusal_over k so (statement.Show under ctx φ) = formula_refusal so.world under ctx φ
+refusal_over k so (statement.Classify under ctx φ) = formula_refusal so.world under ctx φ
+refusal_over k so (statement.Valid under ctx φ) = formula_refusal so.world under ctx φ
 refusal_over k so stmt = elim (is_construction stmt) [ true ↦ some_if (not (fit k so stmt)) refused.NotParallel | false ↦ Some refused.NotBuilt ]
 
 -- the types that a statement counts are sealed, and nothing else has changed
@@ -128,9 +135,15 @@ IsTypeStop ctx φ (stop.Refused fault) = formula_fault [] (reverse ctx.types, φ
 IsTypeStop ctx φ stop.Budget = ⊥
 IsTypeStop ctx φ stop.NoMemory = ⊤
 
+-- one of them is no sheaf
+abbrev pub IsSheafStop : CountedWorld → List Ty → Stop → Type 0
+IsSheafStop w types (stop.Refused fault) = no_sheaf_among w types ≡ Some fault
+IsSheafStop w types stop.Budget = ⊥
+IsSheafStop w types stop.NoMemory = ⊤
+
 -- a formula is accepted, all its types are sealed and within the budget, and nothing else has changed
 pub record IsFormulaSealed (under : ℕ) (ctx : Ctx) (φ : Term) (so mid : Declarations) : Type 0 where
-  pub accepted : formula_refusal under ctx φ ≡ None
+  pub accepted : formula_refusal so.world under ctx φ ≡ None
   pub maps : mid.maps ≡ so.maps
   pub types : IsGrownBy (formula_needs ctx φ) so.world mid.world
   pub types_fit : cells_with so.world (formula_needs ctx φ) ≤ so.world.budget
@@ -139,8 +152,8 @@ pub record IsFormulaSealed (under : ℕ) (ctx : Ctx) (φ : Term) (so mid : Decla
 
 -- it is refused, or its types have more cells than the budget
 abbrev pub IsFormulaStop : ℕ → Ctx → Term → Declarations → Stop → Type 0
-IsFormulaStop under ctx φ so (stop.Refused fault) = formula_refusal under ctx φ ≡ Some fault
-IsFormulaStop under ctx φ so stop.Budget = (formula_refusal under ctx φ ≡ None) × (so.world.budget < cells_with so.world (formula_needs ctx φ))
+IsFormulaStop under ctx φ so (stop.Refused fault) = formula_refusal so.world under ctx φ ≡ Some fault
+IsFormulaStop under ctx φ so stop.Budget = (formula_refusal so.world under ctx φ ≡ None) × (so.world.budget < cells_with so.world (formula_needs ctx φ))
 IsFormulaStop under ctx φ so stop.NoMemory = ⊤
 
 -- a statement is answered, with this declared before it and behind it

@@ -7,6 +7,8 @@ use Rattle.topos_model.specs.declared.answer.End.TheVariants as end
 use Rattle.topos_model.specs.declared.fault.Fault.TheVariants as refused
 use Rattle.fin_category.specs.declared.fault.CatFault.{CatFault}
 use Rattle.fin_category.specs.declared.fault.CatFault.TheVariants as category_fault
+use Rattle.topologies.specs.declared.fault.TopFault.{TopFault}
+use Rattle.topologies.specs.declared.fault.TopFault.TheVariants as topology_fault
 use Rattle.topos_session.specs.declared.stop.Stop.{Stop}
 use Rattle.topos_session.specs.declared.stop.Stop.TheVariants as stop
 use Rattle.topos_session.specs.declared.stop.SiteStop.{SiteStop}
@@ -25,6 +27,12 @@ category_stop doc (category_fault.CompositeTwice g f) = site_stop.Refused doc (r
 category_stop doc (category_fault.CompositeEnds g f h) = site_stop.Refused doc (refused.CompositeEnds g f h)
 category_stop doc (category_fault.NotAssociative h g f) = site_stop.Refused doc (refused.NotAssociative h g f)
 category_stop doc category_fault.NoMemory = site_stop.NoMemory
+
+-- the stop by a fault of the topology
+abbrev pub topology_stop : Doc → TopFault → SiteStop
+topology_stop doc (topology_fault.NotStable at cover f) = site_stop.Refused doc (refused.NotStable 0 at cover f)
+topology_stop doc (topology_fault.NotTransitive at cover other) = site_stop.Refused doc (refused.NotTransitive 0 at cover other)
+topology_stop doc topology_fault.NoMemory = site_stop.NoMemory
 
 -- a run that begins: nothing refuses the document before its statements, and nothing is answered yet
 pub record IsOpened (doc : Doc) (budget : ℕ) (p : Progress) : Type 0 where

@@ -5,7 +5,7 @@ ghost use Rattle.topos_model.specs.presheaves.PresheafFaults.{IsPresheafListing}
 ghost use Rattle.topos_model.specs.presheaves.MapFaults.{IsMapListing};
 ghost use Rattle.topos_session.specs.Ranges.{is_in_range};
 ghost use Rattle.sealed_world.specs.SealedWorlds.{world_cells};
-ghost use Rattle.topos_session.specs.Declarations.{AreLawful, HasNoCovers, IsKept};
+ghost use Rattle.topos_session.specs.Declarations.{AreLawful, IsKept};
 ghost use Rattle.topos_session.specs.Constructions.{is_construction};
 ghost use Rattle.topos_session.specs.Statements.{IsAnsweredOver, IsStoppedOver};
 
@@ -114,7 +114,6 @@ fn list(alloc: Global, so: &mut Declarations, ends: (u32, u32)) -> Result<Answer
 #[tactic(auto, using(crate::proofs::StatementForms::kind_rules))]
 pub(crate) fn answer(alloc: Global, so: &mut Declarations, stmt: &Stmt) -> Result<Answer, Stop>
     requires lawful { AreLawful so.old.world.site.category so.old }
-    requires covers { HasNoCovers so.old.world.site }
     requires range { is_in_range so.old.world.site.category.objects so.old.world.site.category.ends (length so.old.world.functors) (length so.old.maps) stmt.now ≡ true }
     requires few { length so.old.world.functors < 2 ^ 32 }
     requires fits { world_cells so.old.world ≤ so.old.world.budget }

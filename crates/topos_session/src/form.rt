@@ -1,8 +1,8 @@
-// Whether a formula and a topology are among those that are run.
+// Whether a formula is among those that are run.
 ghost use Rattle.std.specs.Prelude.{◌≡◌, ◌&&◌, eqb};
-ghost use Rattle.topos_session.specs.Ranges.{applies_none, is_trivial};
+ghost use Rattle.topos_session.specs.Ranges.{applies_none};
 
-use topos_model::{Term, TopDecl};
+use topos_model::Term;
 
 // Whether a term applies no map.
 #[tactic(auto, using(crate::proofs::FormEquations::map_rules))]
@@ -32,16 +32,6 @@ fn applies_none(term: &Term) -> bool
         Term::Forall(_, body) => applies_none(body.get()),
         Term::Exists(_, body) => applies_none(body.get()),
         Term::Unique(_, body) => applies_none(body.get()),
-    }
-}
-
-/// Whether the maximal sieves alone cover.
-pub(crate) fn is_trivial(tops: &[TopDecl]) -> bool
-    ensures { result ≡ is_trivial tops.now }
-{
-    match tops {
-        [top] => !top.dense && top.covers.len() == 0,
-        _ => false,
     }
 }
 

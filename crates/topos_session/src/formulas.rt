@@ -1,17 +1,19 @@
 // Statements about a formula.
-ghost use Rattle.std.specs.Prelude.{◌≡◌, ◌≤◌, true, [], length, reverse, IfOk, IfErr, OnErr, OnOk};
+ghost use Rattle.std.specs.Prelude.{◌≡◌, ◌^◌, ◌<◌, ◌≤◌, true, [], length, reverse, None, IfOk, IfErr, OnErr, OnOk};
+ghost use Rattle.std.specs.List.{flat_map};
+ghost use Rattle.topos_model.specs.statements.Needs.{parts};
 ghost use Rattle.topos_model.specs.declared.stmt.Stmt.TheVariants as statement;
 ghost use Rattle.sealed_world.specs.SealedWorlds.{world_cells};
 ghost use Rattle.topos_session.specs.Ranges.{is_formula_in_range};
-ghost use Rattle.topos_session.specs.Declarations.{AreLawful, HasNoCovers, IsKept};
-ghost use Rattle.topos_session.specs.Statements.{IsTyped, IsTypeStop, IsFormulaSealed, IsFormulaStop, IsAnsweredOver, IsStoppedOver};
+ghost use Rattle.topos_session.specs.Declarations.{AreLawful, IsKept};
+ghost use Rattle.topos_session.specs.Statements.{no_sheaf_among, IsTyped, IsTypeStop, IsSheafStop, IsFormulaSealed, IsFormulaStop, IsAnsweredOver, IsStoppedOver};
 
 use crate::Stop;
 use crate::declarations::Declarations;
 use crate::form::is_formula_built;
 use formula_answers::{classified, shown, unforced};
 use std::alloc::Global;
-use term_typing::counted;
+use term_typing::{counted, names_functor};
 use topos_model::{Answer, Copied, Ctx, Fault, Row, Term, Ty};
 
 // The types that a formula counts, or why it is none.
@@ -30,6 +32,21 @@ fn formula_types(alloc: Global, ctx: &Ctx, phi: &Term) -> Result<Row<Ty>, Stop>
     }))
 }
 
+// The first presheaf that occurs in types and is no sheaf refuses them.
+fn name_sheaves(alloc: Global, so: &mut Declarations, types: &[Ty]) -> Result<(), Stop>
+    requires few { length so.old.world.functors < 2 ^ 32 }
+    ensures sheaves { OnOk result (no_sheaf_among so.old.world (flat_map parts types.now) ≡ None) }
+    ensures stop { IfErr result (λ stop. IsSheafStop so.old.world (flat_map parts types.now) stop) }
+    ensures unchanged { so.new ≡ so.old }
+{
+    for n in 0..so.world.functors().len() as u32 {
+        if names_functor(types, n) && !so.world.is_sheaf(alloc, n)? {
+            return Err(Stop::Refused(Fault::NotASheaf { functor: n }));
+        }
+    }
+    Ok(())
+}
+
 // Seals the types that a formula counts, where it is accepted and they are within the budget.
 fn seal_formula(
     alloc: Global,
@@ -39,8 +56,8 @@ fn seal_formula(
     phi: &Term,
 ) -> Result<(), Stop>
     requires lawful { AreLawful so.old.world.site.category so.old }
-    requires covers { HasNoCovers so.old.world.site }
     requires range { is_formula_in_range (length so.old.world.functors) (length so.old.maps) ctx.now phi.now ≡ true }
+    requires few { length so.old.world.functors < 2 ^ 32 }
     requires fits { world_cells so.old.world ≤ so.old.world.budget }
     ensures sealed { OnOk result (IsFormulaSealed under ctx.now phi.now so.old so.new) }
     ensures stop { IfErr result (λ stop. IsFormulaStop under ctx.now phi.now so.old stop) }
@@ -53,6 +70,7 @@ fn seal_formula(
     so.cat().laws();
     let _top = so.world.site().top();
     let types = formula_types(alloc, ctx, phi)?;
+    name_sheaves(alloc, so, types.as_slice())?;
     so.world.need(alloc, types.as_slice())?;
     let _room = so.world.room();
     Ok(())
@@ -67,8 +85,8 @@ pub(crate) fn show(
     phi: &Term,
 ) -> Result<Answer, Stop>
     requires lawful { AreLawful so.old.world.site.category so.old }
-    requires covers { HasNoCovers so.old.world.site }
     requires range { is_formula_in_range (length so.old.world.functors) (length so.old.maps) ctx.now phi.now ≡ true }
+    requires few { length so.old.world.functors < 2 ^ 32 }
     requires fits { world_cells so.old.world ≤ so.old.world.budget }
     ensures answer { IfOk result (λ answer. IsAnsweredOver so.old.world.site.category so.old (statement.Show under ctx.now phi.now) answer so.new) }
     ensures stop { IfErr result (IsStoppedOver so.old.world.site.category so.old (statement.Show under ctx.now phi.now)) }
@@ -89,8 +107,8 @@ pub(crate) fn classify(
     phi: &Term,
 ) -> Result<Answer, Stop>
     requires lawful { AreLawful so.old.world.site.category so.old }
-    requires covers { HasNoCovers so.old.world.site }
     requires range { is_formula_in_range (length so.old.world.functors) (length so.old.maps) ctx.now phi.now ≡ true }
+    requires few { length so.old.world.functors < 2 ^ 32 }
     requires fits { world_cells so.old.world ≤ so.old.world.budget }
     ensures answer { IfOk result (λ answer. IsAnsweredOver so.old.world.site.category so.old (statement.Classify under ctx.now phi.now) answer so.new) }
     ensures stop { IfErr result (IsStoppedOver so.old.world.site.category so.old (statement.Classify under ctx.now phi.now)) }
@@ -111,8 +129,8 @@ pub(crate) fn judge(
     phi: &Term,
 ) -> Result<Answer, Stop>
     requires lawful { AreLawful so.old.world.site.category so.old }
-    requires covers { HasNoCovers so.old.world.site }
     requires range { is_formula_in_range (length so.old.world.functors) (length so.old.maps) ctx.now phi.now ≡ true }
+    requires few { length so.old.world.functors < 2 ^ 32 }
     requires fits { world_cells so.old.world ≤ so.old.world.budget }
     ensures answer { IfOk result (λ answer. IsAnsweredOver so.old.world.site.category so.old (statement.Valid under ctx.now phi.now) answer so.new) }
     ensures stop { IfErr result (IsStoppedOver so.old.world.site.category so.old (statement.Valid under ctx.now phi.now)) }

@@ -2,13 +2,13 @@
 ghost use Rattle.std.specs.Prelude.{◌≡◌, ◌≤◌, ◌+◌, ◌&&◌, length, eqb, leb, ltb, IfOk};
 ghost use Rattle.std.specs.List.{list_all};
 ghost use Rattle.term_ranges.specs.Ranges.{is_type_in_range};
-ghost use Rattle.topos_session.specs.Ranges.{is_formula_in_range, is_in_range, declares, are_in_range, has_range, max_statements};
+ghost use Rattle.topos_session.specs.Ranges.{goes_into, is_family_in_range, is_topology_in_range, is_formula_in_range, is_in_range, declares, are_in_range, has_range, max_statements};
 
 use crate::listing::{is_map_listing, is_presheaf_listing};
 use fin_category::{all_ends, is_listing};
 use std::alloc::Global;
 use term_ranges::{is_term_in_range, is_type_in_range};
-use topos_model::{Ctx, Doc, NoMemory, Stmt, Term, Ty};
+use topos_model::{Ctx, Doc, Family, NoMemory, Stmt, Term, TopDecl, Ty};
 
 // How many statements a document may have, those of its site among them.
 const MAX_STATEMENTS: u32 = 10_000;
@@ -151,6 +151,47 @@ fn are_in_range(
     Ok(true)
 }
 
+// Whether f is an arrow into c.
+fn goes_into(ends: &[(u32, u32)], c: u32, f: u32) -> bool
+    ensures { result ≡ goes_into ends.now c f }
+{
+    match ends.get(f as usize) {
+        Some(here) => here.1 == c,
+        None => false,
+    }
+}
+
+// Whether the arrows of a family go into its object.
+fn is_family_in_range(ends: &[(u32, u32)], family: &Family) -> bool
+    ensures { result ≡ is_family_in_range ends.now family.now }
+{
+    family
+        .arrows
+        .as_slice()
+        .iter()
+        .all(|f| goes_into(ends, family.at, *f))
+}
+
+// Whether those of the families of a topology do.
+#[tactic(auto, unfolding(crate::specs::Ranges::is_topology_in_range))]
+fn is_topology_in_range(ends: &[(u32, u32)], top: &TopDecl) -> bool
+    ensures { result ≡ is_topology_in_range ends.now top.now }
+{
+    if top.dense {
+        return top.covers.len() == 0;
+    }
+    top.covers
+        .as_slice()
+        .iter()
+        .all(|family| is_family_in_range(ends, family))
+}
+
+fn are_topologies_in_range(ends: &[(u32, u32)], tops: &[TopDecl]) -> bool
+    ensures { result ≡ list_all (is_topology_in_range ends.now) tops.now }
+{
+    tops.iter().all(|top| is_topology_in_range(ends, top))
+}
+
 /// Whether the numbers of a document are in range, as far as the statements need it that are run. Any document may be given; want of memory is the only error.
 pub(crate) fn has_range(alloc: Global, doc: &Doc) -> Result<bool, NoMemory>
     ensures { IfOk result (λ answer. answer ≡ has_range doc.now) }
@@ -159,6 +200,9 @@ pub(crate) fn has_range(alloc: Global, doc: &Doc) -> Result<bool, NoMemory>
         return Ok(false);
     }
     let ends = all_ends(alloc, &doc.cat)?;
+    if !are_topologies_in_range(ends.as_slice(), doc.tops.as_slice()) {
+        return Ok(false);
+    }
     are_in_range(
         alloc,
         doc.cat.objects,

@@ -2,18 +2,18 @@
 ghost use Rattle.std.specs.Prelude.{◌≡◌, ◌≤◌, ◌<◌, ◌+◌, true, false, leb, length, IfOk, IfErr, OnErr};
 ghost use Rattle.natural_maps.specs.Room.{max_room};
 ghost use Rattle.topos_model.specs.statements.Declarations.{cells_so_far};
-ghost use Rattle.topos_session.specs.Steps.{category_stop};
+ghost use Rattle.topos_session.specs.Steps.{category_stop, topology_stop};
 
 use crate::answer::answer;
 use crate::declarations::Declarations;
-use crate::form::is_trivial;
 use crate::range::has_range;
+use crate::topology::{declared_topology, is_single};
 use crate::{SiteStop, Stop};
 use fin_category::{Cat, CatFault};
 use sealed_world::SealedWorld;
 use std::alloc::Global;
 use std::marker::Model;
-use topologies::{Site, Topology};
+use topologies::{Site, TopFault};
 use topos_model::{Answer, Doc, Fault, Row};
 
 // The fault of the category refuses the document.
@@ -32,6 +32,33 @@ fn category_stop(doc: Doc, fault: CatFault) -> SiteStop
             SiteStop::Refused(doc, Fault::NotAssociative { h, g, f })
         }
         CatFault::NoMemory => SiteStop::NoMemory,
+    }
+}
+
+// The fault of the topology refuses the document.
+fn topology_stop(doc: Doc, fault: TopFault) -> SiteStop
+    ensures { result ≡ topology_stop doc fault }
+{
+    match fault {
+        TopFault::NotStable { at, cover, f } => SiteStop::Refused(
+            doc,
+            Fault::NotStable {
+                under: 0,
+                at,
+                cover,
+                f,
+            },
+        ),
+        TopFault::NotTransitive { at, cover, other } => SiteStop::Refused(
+            doc,
+            Fault::NotTransitive {
+                under: 0,
+                at,
+                cover,
+                other,
+            },
+        ),
+        TopFault::NoMemory => SiteStop::NoMemory,
     }
 }
 
@@ -66,7 +93,7 @@ impl Session {
     ghost use Rattle.topos_session.specs.Steps.{IsOpened, IsSiteStop, IsStep, IsStop};
 
     /// Begins a document with a budget in cells for all its statements together: nothing is answered yet. A document whose numbers are out of range is refused as not built; then the category's first fault refuses it,
-    /// and then it is refused as not built where other sieves cover than the maximal ones. A refused document is handed back; where no memory is left it is given up.
+    /// then it is refused as not built where there is more than one topology, and then the topology's first fault refuses it. A refused document is handed back; where no memory is left it is given up.
     pub fn new(alloc: Global, doc: Doc, budget: u64) -> Result<Session, SiteStop>
         requires budget { budget ≤ max_room }
         ensures opened { IfOk result (λ session. IsOpened doc budget session) }
@@ -79,10 +106,13 @@ impl Session {
             Ok(cat) => cat,
             Err(fault) => return Err(category_stop(doc, fault)),
         };
-        if !is_trivial(doc.tops.as_slice()) {
+        if !is_single(doc.tops.as_slice()) {
             return Err(SiteStop::Refused(doc, Fault::NotBuilt));
         }
-        let top = Topology::trivial(alloc, &cat)?;
+        let top = match declared_topology(alloc, &cat, doc.tops.get(0)) {
+            Ok(top) => top,
+            Err(fault) => return Err(topology_stop(doc, fault)),
+        };
         let world = SealedWorld::new(alloc, Site::new(cat, top), budget)?;
         let _room = world.room();
         Ok(Session {

@@ -4,11 +4,11 @@ use Rattle.std.proofs.lemmas.Result.{err_from_is_err_and}
 use Rattle.topos_model.specs.Laws.{IsCategory, IsTopology}
 use Rattle.topos_session.specs.Statements.{IsTyped}
 use Rattle.topos_session.proofs.LawfulDeclarations.{unchanged_kept}
-use Rattle.topos_session.proofs.FormulaAnswers.{formula_unbuilt, type_stops, types_over, types_named, formula_sealed}
+use Rattle.topos_session.proofs.FormulaAnswers.{formula_unbuilt, type_stops, sheaf_stops, types_over, types_named, formula_sealed}
 use Rattle.topos_session.proofs.formulas.seal_formula.Goals as goal
 
 pub returns-then-not-is_formula_built-clause-stop : goal.returns-then-not-is_formula_built-clause-stop
-returns-then-not-is_formula_built-clause-stop c = formula_unbuilt c.args.under c.args.ctx.now c.args.phi.now (sym c.is_formula_built.ensures ∙ c.if-not-is_formula_built.true)
+returns-then-not-is_formula_built-clause-stop c = formula_unbuilt c.args.under c.args.ctx.now c.args.phi.now c.args.so.now.world (sym c.is_formula_built.ensures ∙ c.if-not-is_formula_built.true)
 
 pub returns-then-not-is_formula_built-clause-unchanged : goal.returns-then-not-is_formula_built-clause-unchanged
 returns-then-not-is_formula_built-clause-unchanged c = unchanged_kept c.args.so.now c.args.so.now refl
@@ -21,6 +21,14 @@ returns-in_err-types-clause-stop c =
 
 pub returns-in_err-types-clause-unchanged : goal.returns-in_err-types-clause-unchanged
 returns-in_err-types-clause-unchanged c = let p = err_from_is_err_and c.from_residual.result c.from_residual.ensures.1 in rw p.1 (unchanged_kept c.args.so.now c.args.so.now refl)
+
+pub returns-in_err-name_sheaves-clause-stop : goal.returns-in_err-name_sheaves-clause-stop
+returns-in_err-name_sheaves-clause-stop c =
+    let so = c.args.so.now in
+    let built = sym c.is_formula_built.ensures ∙ c.if-not-is_formula_built.false in
+    let is = subst (IsTyped c.args.ctx.now c.args.phi.now) (sym c.as_slice.ensures) c.in_ok-types.ensures.types in
+    let p = err_from_is_err_and c.from_residual-in_err-name_sheaves.result c.from_residual-in_err-name_sheaves.ensures.1 in
+    rw (p.1, p.2) (sheaf_stops c.args.under c.args.ctx.now c.args.phi.now built so c.as_slice.result.now is c.in_err-name_sheaves.field-0.0 c.in_err-name_sheaves.ensures.stop)
 
 pub need-requires : goal.need-requires
 need-requires c =

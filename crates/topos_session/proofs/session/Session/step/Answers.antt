@@ -1,10 +1,7 @@
 use Rattle.std.proofs.Common.{◌≡◌, ◌≤◌, true, refl, sym, ap, subst, ◌∙◌, arith}
 use Rattle.sealed_world.specs.SealedWorlds.{world_cells}
 use Rattle.topos_session.specs.Progress.{Progress, IsUnderWay}
-use Rattle.topos_model.specs.topologies.Cover.{Site}
-use Rattle.topos_session.specs.Declarations.{HasNoCovers}
 use Rattle.topos_session.proofs.DocumentRanges.{ranges}
-use Rattle.topos_session.proofs.SiteRefusals.{no_covers}
 use Rattle.topos_session.proofs.StagedStatements.{answered_next, counted_behind_it, stopped_next}
 use Rattle.topos_session.proofs.SessionSteps.{next_in_range, goes_on}
 use Rattle.topos_session.proofs.session.Session.step.Goals as goal
@@ -13,11 +10,6 @@ pub answer-requires-clause-range : goal.answer-requires-clause-range
 answer-requires-clause-range c =
     let i = c.self.inside in
     next_in_range i.doc i.so i.answered i.live c.get-stmt.result.now c.self.invariant c.get-stmt.ensures
-
-pub answer-requires-clause-covers : goal.answer-requires-clause-covers
-answer-requires-clause-covers c =
-    let i = c.self.inside in
-    subst (λ (s : Site). HasNoCovers s) (sym c.self.invariant.site) (no_covers i.doc c.self.invariant.covers)
 
 pub answer-requires-clause-few : goal.answer-requires-clause-few
 answer-requires-clause-few c =
