@@ -23,22 +23,22 @@ pub invariant_of-self : goal.invariant_of-self
 invariant_of-self c =
     let w = c.self.inside in
     let v : InStore = record { site = w.site; functors = w.functors; store = w.store } in
-    let T = c.args.ty.now in
-    (
+    let T = c.args.ty.now in (
       extended_world v (parts T) c.need.new.store c.self.invariant.0 c.need.ensures.added (c.need.ensures.faithful w.functors c.self.invariant.0.faithful),
       values_kept w.site (types_in w.store) (types_in c.need.new.store) w.truth_values
-      (was_there v (parts T) c.need.new.store c.self.invariant.0 c.need.ensures.added (subst (λ (u : CountedWorld). In (parts T) Omega → In u.types Omega) (sym c.self.view_is) c.requires.omega)) c.self.invariant.1
+          (was_there v (parts T) c.need.new.store c.self.invariant.0 c.need.ensures.added (subst (λ (u : CountedWorld). In (parts T) Omega → In u.types Omega) (sym c.self.view_is) c.requires.omega)) c.self.invariant.1,
+      c.self.invariant.2,
     )
 
 pub invariant_of-self-2 : goal.invariant_of-self-2
 invariant_of-self-2 c =
     let w = c.self.inside in
     let v : InStore = record { site = w.site; functors = w.functors; store = w.store } in
-    let T = c.args.ty.now in
-    (
+    let T = c.args.ty.now in (
       extended_world v (parts T) c.need.new.store c.self.invariant.0 c.need.ensures.added (c.need.ensures.faithful w.functors c.self.invariant.0.faithful),
       values_kept w.site (types_in w.store) (types_in c.need.new.store) w.truth_values
-      (was_there v (parts T) c.need.new.store c.self.invariant.0 c.need.ensures.added (subst (λ (u : CountedWorld). In (parts T) Omega → In u.types Omega) (sym c.self.view_is) c.requires.omega)) c.self.invariant.1
+          (was_there v (parts T) c.need.new.store c.self.invariant.0 c.need.ensures.added (subst (λ (u : CountedWorld). In (parts T) Omega → In u.types Omega) (sym c.self.view_is) c.requires.omega)) c.self.invariant.1,
+      c.self.invariant.2,
     )
 
 pub returns-in-Err-clause-err : goal.returns-in-Err-clause-err
