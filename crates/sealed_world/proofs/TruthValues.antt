@@ -1,13 +1,11 @@
 -- The truth values stay where they are while other types are sealed.
-use Rattle.std.proofs.Common.{◌≡◌, List, [], Option, None, Some, is_some, Result, Ok, Err, refl, sym, ap, subst, ◌∙◌}
-use Rattle.std.specs.Prelude.{OnOk, OnErr}
+use Rattle.std.proofs.Common.{◌≡◌, List, [], Option, None, Some, refl, ap, subst}
 use Rattle.finite_lists.specs.Members.{In}
 use Rattle.topos_model.specs.declared.ty.Ty.{Ty, Omega}
 use Rattle.topos_model.specs.topologies.Cover.{Site}
-use Rattle.functor_store.specs.Store.{Store}
 use Rattle.omega_object.specs.declared.omega.Omega.{Omega as Values}
 use Rattle.omega_object.specs.Tables.{IsOmegaOn}
-use Rattle.sealed_world.specs.SealedWorlds.{HasTruthValues, types_in}
+use Rattle.sealed_world.specs.SealedWorlds.{HasTruthValues}
 
 is_none_here : Option Values → Type 0
 is_none_here None = Unit {0}

@@ -1,1 +1,2 @@
 pub mod SealedWorlds
+pub mod Marks

@@ -1,9 +1,10 @@
 -- A site with presheaves and types that are sealed in a store.
-use Rattle.std.specs.Prelude.{◌≡◌, ℕ, ◌+◌, ◌<◌, false, not, List, [], ◌∷◌, ◌++◌, length, map, filter, sum, Option, None, Some}
+use Rattle.std.specs.Prelude.{◌≡◌, ℕ, ◌+◌, ◌<◌, Bool, true, false, not, List, [], ◌∷◌, ◌++◌, length, get_or, map, filter, sum, Option, None, Some}
 use Rattle.topos_model.specs.declared.ty.Ty.{Ty, Base, Omega}
 use Rattle.finite_lists.specs.Members.{In, Distinct}
 use Rattle.topos_model.specs.topologies.Cover.{Site}
-use Rattle.topos_model.specs.types.Types.{Presheaf}
+use Rattle.topos_model.specs.topologies.Sheaves.{sheaf_fault}
+use Rattle.topos_model.specs.types.Types.{Presheaf, functor}
 use Rattle.topos_model.specs.statements.Cells.{is_named, presheaf_cells, types_cells}
 use Rattle.functor_store.specs.Store.{Store}
 use Rattle.functor_store.specs.Faithful.{Holds, IsFaithful}
@@ -72,6 +73,11 @@ pub record IsInStore (w : InStore) : Type 0 where
 pub record HasTruthValues (s : Site) (types : List Ty) (values : Option TruthValues) : Type 0 where
   pub lawful : (Ω : TruthValues) → values ≡ Some Ω → IsOmegaOn s Ω
   pub there : In types Omega → (Ω : TruthValues) × (values ≡ Some Ω)
+
+-- each presheaf that is marked is a sheaf
+pub record AreSheaves (s : Site) (functors : List Presheaf) (marks : List Bool) : Type 0 where
+  pub number : (n : ℕ) → get_or marks n false ≡ true → n < length functors
+  pub sheaf : (n : ℕ) → get_or marks n false ≡ true → sheaf_fault s (functor s functors n) ≡ None
 
 -- the sealed types other than presheaves
 unfoldable pub types_in : Store → List Ty

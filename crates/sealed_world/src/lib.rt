@@ -2,6 +2,7 @@
 #![tactic(auto)]
 
 mod ends;
+mod marks;
 mod omega;
 mod world;
 

@@ -1,10 +1,11 @@
 // A site with presheaves and types in a store.
-ghost use Rattle.std.specs.Prelude.{◌≡◌, ℕ, ◌+◌, ◌^◌, ◌<◌, ◌≤◌, ◌++◌, ◌∷◌, [], length, IfOk, OnOk, OnErr, Some};
+ghost use Rattle.std.specs.Prelude.{◌≡◌, ℕ, ◌+◌, ◌^◌, ◌<◌, ◌≤◌, ◌++◌, ◌∷◌, [], length, is_none, IfOk, OnOk, OnErr, Some};
 ghost use denote.Bor.{Bor};
 ghost use Rattle.std.specs.List.{flat_map};
 ghost use Rattle.finite_lists.specs.Members.{In};
 ghost use Rattle.topos_model.specs.declared.ty.Ty.{Base, Omega as OmegaType};
 ghost use Rattle.topos_model.specs.Laws.{IsFunctor};
+ghost use Rattle.topos_model.specs.topologies.Sheaves.{sheaf_fault};
 ghost use Rattle.topos_model.specs.types.Types.{Presheaf, functor};
 ghost use Rattle.topos_model.specs.statements.Needs.{parts};
 ghost use Rattle.topos_model.specs.statements.Cells.{presheaf_cells};
@@ -14,12 +15,14 @@ ghost use Rattle.omega_object.specs.Tables.{IsOmegaOn};
 ghost use Rattle.sealed_world.specs.SealedWorlds.{bare_world, world_cells, cells_with, with_presheaf, with_charges, IsGrown, IsGrownBy, IsStoreOf};
 
 use crate::ends::ends_of;
+use crate::marks::Marks;
 use crate::omega::has_omega;
 use exponentials::need;
 use functor_store::{FunctorStore, Over, StoreFault};
 use named_functors::seal_functor;
 use omega_object::Omega;
 use presheaf_core::Functor;
+use sheaf_test::{SheafVerdict, test};
 use std::alloc::Global;
 use std::marker::Model;
 use topologies::Site;
@@ -33,10 +36,12 @@ pub struct SealedWorld {
     store: FunctorStore,
     // Where they are sealed.
     truth_values: Option<Omega>,
+    // Which presheaves are known to be sheaves.
+    sheaves: Marks,
 }
 
 impl Model for SealedWorld {
-    ghost use Rattle.sealed_world.specs.SealedWorlds.{CountedWorld, IsInStore, HasTruthValues, seen, types_in};
+    ghost use Rattle.sealed_world.specs.SealedWorlds.{CountedWorld, IsInStore, HasTruthValues, AreSheaves, seen, types_in};
 
     ghost Value = { CountedWorld };
 
@@ -47,7 +52,7 @@ impl Model for SealedWorld {
 
     ghost view = { λ w. seen (record { site = w.site; functors = w.functors; store = w.store }) };
 
-    ghost invariant = { λ w. IsInStore (record { site = w.site; functors = w.functors; store = w.store }) × HasTruthValues w.site (types_in w.store) w.truth_values };
+    ghost invariant = { λ w. IsInStore (record { site = w.site; functors = w.functors; store = w.store }) × HasTruthValues w.site (types_in w.store) w.truth_values × AreSheaves w.site w.functors w.sheaves };
 }
 
 impl SealedWorld {
@@ -64,6 +69,7 @@ impl SealedWorld {
             functors: Row::new(alloc),
             store,
             truth_values: None,
+            sheaves: Marks::new(alloc),
         })
     }
 
@@ -105,6 +111,24 @@ impl SealedWorld {
         match &self.truth_values {
             Some(values) => Some(values),
             None => None,
+        }
+    }
+
+    /// Whether the presheaf of a number is a sheaf for the site's topology. One that is a sheaf is tested once.
+    pub fn is_sheaf(&mut self, alloc: Global, number: u32) -> Result<bool, NoMemory>
+        requires number { number < length self.old.functors }
+        ensures sheaf { IfOk result (λ b. b ≡ is_none (sheaf_fault self.old.site (functor self.old.site self.old.functors number))) }
+        ensures unchanged { self.new ≡ self.old }
+    {
+        if self.sheaves.is_marked(number) {
+            return Ok(true);
+        }
+        match test(alloc, &self.site, self.functors.get(number as usize))? {
+            SheafVerdict::Sheaf => {
+                self.sheaves.mark(number)?;
+                Ok(true)
+            }
+            SheafVerdict::Fails { .. } => Ok(false),
         }
     }
 

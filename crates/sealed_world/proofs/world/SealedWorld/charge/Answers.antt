@@ -16,6 +16,7 @@ invariant_of-self c =
     let v : InStore = record { site = w.site; functors = w.functors; store = w.store } in (
       charged_or_not _ _ v c.args.cells c.charge.new.self c.charge.result c.charge.ensures.ok c.charge.ensures.over c.self.invariant.0,
       values_kept w.site (types_in w.store) (types_in c.charge.new.self) w.truth_values (λ i. subst (λ l. In l Omega) (charged_types _ _ v c.args.cells c.charge.new.self c.charge.result c.charge.ensures.ok c.charge.ensures.over) i) c.self.invariant.1,
+      c.self.invariant.2,
     )
 
 pub returns-clause-ok : goal.returns-clause-ok

@@ -1,4 +1,4 @@
-use Rattle.std.proofs.Common.{◌≡◌, ◌+◌, ◌<◌, ◌++◌, ◌∷◌, ℕ, [], List, Some, slice_get, get_or, Err, length, sym, ap, subst, ◌∙◌, arith}
+use Rattle.std.proofs.Common.{◌≡◌, ◌<◌, ◌++◌, ◌∷◌, ℕ, [], List, Some, slice_get, get_or, Err, length, sym, ap, subst, ◌∙◌, arith}
 use Rattle.std.proofs.lemmas.Option.{get_or_from_slice_get}
 use Rattle.std.proofs.lemmas.List.{get_or_push}
 use Rattle.finite_lists.specs.Members.{In}
@@ -13,6 +13,7 @@ use Rattle.sealed_world.specs.SealedWorlds.{CountedWorld, InStore, IsInStore, se
 use Rattle.sealed_world.proofs.CountedCells.{cells_exact, next_cells}
 use Rattle.sealed_world.proofs.Growing.{next_world, next_seen, next_is_free, over_kept}
 use Rattle.sealed_world.proofs.TruthValues.{values_kept}
+use Rattle.sealed_world.proofs.MarkedSheaves.{still_sheaves}
 use Rattle.sealed_world.proofs.world.SealedWorld.declare.Goals as goal
 
 last_of : (fs : List Presheaf) (X : Presheaf) (all : List Presheaf) (n : ℕ) (Y : Presheaf) → n ≡ length fs → all ≡ fs ++ X ∷ [] → slice_get all n ≡ Some Y → Y ≡ X
@@ -48,8 +49,11 @@ invariant_of-self-in_default c =
     let given = (given_world v c.self.invariant.0 c.len-number.result c.args.functor c.get-declared.result.now c.push.new.self c.seal_functor.new.store
     c.len-number.ensures c.in_ok-push.ensures.ok last c.in_default.ensures.ok c.in_default.ensures.faithful) in
     let same = given_seen v c.self.invariant.0 c.len-number.result c.args.functor c.get-declared.result.now c.push.new.self c.seal_functor.new.store
-    c.len-number.ensures c.in_ok-push.ensures.ok last c.in_default.ensures.ok c.in_default.ensures.faithful in
-    (given, values_kept w.site (types_in w.store) (types_in c.seal_functor.new.store) w.truth_values (λ i. subst (λ l. In l Omega) (ap (λ (v : CountedWorld). v.types) same) i) c.self.invariant.1)
+    c.len-number.ensures c.in_ok-push.ensures.ok last c.in_default.ensures.ok c.in_default.ensures.faithful in (
+      given,
+      values_kept w.site (types_in w.store) (types_in c.seal_functor.new.store) w.truth_values (λ i. subst (λ l. In l Omega) (ap (λ (v : CountedWorld). v.types) same) i) c.self.invariant.1,
+      still_sheaves w.site w.functors c.args.functor c.push.new.self w.sheaves c.in_ok-push.ensures.ok c.self.invariant.2,
+    )
 
 pub returns-clause-ok : goal.returns-clause-ok
 returns-clause-ok c =

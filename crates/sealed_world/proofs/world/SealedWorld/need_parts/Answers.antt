@@ -27,6 +27,7 @@ invariant_of-self c =
       extended_world v (parts T) c.need.new.store c.self.invariant.0 c.need.ensures.added (c.need.ensures.faithful w.functors c.self.invariant.0.faithful),
       values_kept w.site (types_in w.store) (types_in c.need.new.store) w.truth_values
           (was_there v (parts T) c.need.new.store c.self.invariant.0 c.need.ensures.added (subst (λ (u : CountedWorld). In (parts T) Omega → In u.types Omega) (sym c.self.view_is) c.requires.omega)) c.self.invariant.1,
+      c.self.invariant.2,
     )
 
 pub invariant_of-self-2 : goal.invariant_of-self-2
@@ -37,6 +38,7 @@ invariant_of-self-2 c =
       extended_world v (parts T) c.need.new.store c.self.invariant.0 c.need.ensures.added (c.need.ensures.faithful w.functors c.self.invariant.0.faithful),
       values_kept w.site (types_in w.store) (types_in c.need.new.store) w.truth_values
           (was_there v (parts T) c.need.new.store c.self.invariant.0 c.need.ensures.added (subst (λ (u : CountedWorld). In (parts T) Omega → In u.types Omega) (sym c.self.view_is) c.requires.omega)) c.self.invariant.1,
+      c.self.invariant.2,
     )
 
 pub returns-in-Err-clause-err : goal.returns-in-Err-clause-err

@@ -6,6 +6,7 @@ use Rattle.functor_store.specs.Store.{Store}
 use Rattle.sealed_world.specs.SealedWorlds.{CountedWorld, InStore, IsInStore, seen, types_in}
 use Rattle.sealed_world.proofs.Growing.{bare_store, bare_in_store, bare_seen}
 use Rattle.sealed_world.proofs.TruthValues.{no_values}
+use Rattle.sealed_world.proofs.MarkedSheaves.{none_marked}
 use Rattle.sealed_world.proofs.world.SealedWorld.new.Goals as goal
 
 -- a store without functors over the ends of the category
@@ -21,6 +22,7 @@ invariant_of-result c =
     let is = bare_is s c.new-2.result c.in_ok-store.store c.objects.result c.args.budget c.in_ok-ends.ends c.new-2.ensures c.in_ok-store.ensures.value objects ends in (
       subst IsInStore (sym is) (bare_in_store s c.args.budget),
       no_values s (types_in c.in_ok-store.store) (ap (λ (v : CountedWorld). v.types) (ap seen is ∙ bare_seen s c.args.budget)),
+      none_marked s c.new-2.result c.new-3.result c.new-3.ensures,
     )
 
 pub returns : goal.returns
