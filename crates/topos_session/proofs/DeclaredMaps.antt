@@ -1,13 +1,12 @@
 -- Declared maps, and formulas over declared functors, as the run sees them.
-use Rattle.std.proofs.Common.{◌≡◌, ℕ, ◌+◌, ◌<◌, Bool, true, not, ◌&&◌, List, [], ◌∷◌, ◌++◌, map, reverse, length, get_or, take, slice_get, is_none, Option, Some, None, refl, sym, ap, ap₂, ◌∙◌, subst, arith}
+use Rattle.std.proofs.Common.{◌≡◌, ℕ, ◌+◌, ◌<◌, true, not, ◌&&◌, List, [], ◌∷◌, ◌++◌, map, reverse, length, get_or, take, slice_get, is_none, Option, Some, None, refl, sym, ap, ap₂, ◌∙◌, subst, arith}
 use Rattle.std.specs.List.{list_any, range_with_len}
-use Rattle.std.proofs.lemmas.Bool.{and_right, and_parts, eqb-true}
+use Rattle.std.proofs.lemmas.Bool.{and_parts, eqb-true}
 use Rattle.std.proofs.lemmas.List.{append-nil, map-append, length-map, take_more, get_or-map, ext_get_or}
 use Rattle.std.proofs.lemmas.List.FromFn.{length-map-range_with_len, get_or-map-range_with_len}
 use Rattle.topos_model.proofs.ValueEquations.{number_of-El}
 use Rattle.std.proofs.lemmas.Option.{get_or_from_slice_get, slice_get_within}
 use Rattle.finite_lists.specs.First.{or_else, some_if}
-use Rattle.finite_lists.proofs.DistinctLists.{In-range_from}
 use Rattle.finite_lists.proofs.FirstAnswers.{first_none}
 use denote.Hole.Carrier
 use Rattle.topos_model.specs.declared.ty.Ty.{Ty, Base, One}
@@ -24,7 +23,6 @@ use Rattle.topos_model.specs.declared.fault.Fault.TheVariants.{NotASheaf, NotPar
 use Rattle.topos_model.specs.categories.Category.{Category}
 use Rattle.topos_model.specs.topologies.Cover.{Site}
 use Rattle.topos_model.specs.types.Values.{number_of}
-use Rattle.topos_model.specs.Laws.{IsCategory}
 use Rattle.topos_model.specs.presheaves.Maps.{Components}
 use Rattle.topos_model.specs.categories.Filling.{filled_category}
 use Rattle.topos_model.specs.topologies.Sheaves.{sheaf_fault}
@@ -36,7 +34,6 @@ use Rattle.topos_model.specs.statements.Answers.{element_pairs, functor_map, unf
 use Rattle.topos_model.specs.statements.Refusals.{foreign_refusal, sheaf_refusal, term_refusal, ends_fit, refusal}
 use Rattle.topos_session.specs.Ranges.{applies_none, is_formula_in_range, is_in_range}
 use Rattle.topos_session.specs.Built.{is_formula_built, is_built}
-use Rattle.topos_session.specs.Functors.{AreFunctors}
 use Rattle.topos_session.specs.declared.declarations.FunctorMap.{FunctorMap}
 use Rattle.topos_session.specs.declared.declarations.Declarations.{Declarations}
 use Rattle.topos_session.specs.Declarations.{declared_map, with_counted, AreLawful, no_map}

@@ -1,15 +1,14 @@
 -- The topology that a document declares, where its numbers are in range.
-use Rattle.std.proofs.Common.{◌≡◌, ℕ, ◌<◌, Bool, true, false, ◌&&◌, cond, eqb, List, [], ◌∷◌, length, get_or, refl, arith}
+use Rattle.std.proofs.Common.{◌≡◌, Bool, true, false, cond, eqb, List, [], ◌∷◌, length, refl, arith}
 use Rattle.std.specs.List.{list_all}
 use Rattle.std.proofs.lemmas.Bool.{and_parts, eqb-true, ltb-true}
-use Rattle.finite_lists.specs.Members.{In}
 use Rattle.finite_lists.proofs.Lists.{all_each}
 use Rattle.topos_model.specs.declared.raw.Family.{Family}
 use Rattle.topos_model.specs.declared.doc.TopDecl.{TopDecl}
 use Rattle.topos_model.specs.categories.Category.{Category}
 use Rattle.topos_model.specs.topologies.TopologyFaults.{IsListed}
 use Rattle.topos_session.specs.Ranges.{is_family_in_range, is_topology_in_range}
-use Rattle.topos_session.specs.Topologies.{declared_site, IsTopologyListing}
+use Rattle.topos_session.specs.Topologies.{IsTopologyListing}
 
 no_items : {A : Type 0} → (xs : List A) → eqb (length xs) 0 ≡ true → xs ≡ []
 no_items [] e = refl

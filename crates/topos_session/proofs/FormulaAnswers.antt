@@ -1,13 +1,14 @@
 -- Statements about a formula: why they are refused, what they count, and that they answer.
-use Rattle.std.proofs.Common.{◌≡◌, ℕ, ◌-◌, ◌<◌, ◌≤◌, Bool, true, false, not, ◌&&◌, eqb, inl, inr, List, [], reverse, length, flat_map, is_none, Option, Some, None, Ok, Err, refl, sym, ap, subst, ◌∙◌, arith}
+use Rattle.std.proofs.Common.{◌≡◌, ℕ, ◌-◌, ◌<◌, ◌≤◌, Bool, true, false, not, ◌&&◌, eqb, inl, inr, List, [], reverse, length, flat_map, is_none, Option, Some, None, Ok, Err, refl, sym, ap, subst, ◌∙◌, arith, drop, get_or, ap₂, ◌+◌, ◌∷◌}
 use Rattle.std.proofs.lemmas.Bool.{cases_lt, cases_Bool, true≢false}
 use Rattle.std.proofs.lemmas.List.{append-nil}
+use Rattle.std.proofs.lemmas.List.FromFn.{length-range_with_len, get_or-range_with_len}
 use denote.Hole.Carrier
 use Rattle.std.specs.List.{list_any, range_with_len}
 use Rattle.finite_lists.specs.Members.{In}
-use Rattle.finite_lists.specs.First.{some_if}
+use Rattle.finite_lists.specs.First.{first, some_if}
 use Rattle.finite_lists.proofs.Lists.{any_some, some_any}
-use Rattle.finite_lists.proofs.FirstAnswers.{first_same}
+use Rattle.finite_lists.proofs.FirstAnswers.{first_same, first_left-none, first_left-some, first_left-end}
 use Rattle.topos_model.specs.topologies.Sheaves.{sheaf_fault}
 use Rattle.topos_model.specs.declared.ty.Ty.{Ty, Base, Omega}
 use Rattle.topos_model.specs.declared.ty.Ty.TheBlock.{hidden-the_row-Ty-0}
@@ -16,6 +17,7 @@ use Rattle.topos_model.specs.declared.context.Ctx.{Ctx}
 use Rattle.topos_model.specs.declared.stmt.Stmt.{Stmt}
 use Rattle.topos_model.specs.declared.stmt.Stmt.TheVariants.{Show, Classify, Valid}
 use Rattle.topos_model.specs.declared.answer.Answer.{Answer}
+use Rattle.topos_model.specs.declared.fault.Fault.{Fault}
 use Rattle.topos_model.specs.declared.fault.Fault.TheVariants.{NotBuilt, NotASheaf, Expected as ExpectedFault}
 use Rattle.topos_model.specs.categories.Category.{Category}
 use Rattle.topos_model.specs.types.Types.{Presheaf}
@@ -64,6 +66,45 @@ among_same w xs ys f g =
 found_none : (w : CountedWorld) (types : List Ty) → no_sheaf_among w types ≡ None → first_no_sheaf (λ n. is_none (sheaf_fault w.site (functor_at w.functors n))) (length w.functors) types ≡ None
 unfolding no_sheaf_among
 found_none w types e = e
+
+-- the search for the first presheaf that is no sheaf, from the number n on
+module _ (w : CountedWorld) (types : List Ty) where
+  tested : ℕ → Option Fault
+  tested n = some_if (list_any (is_functor n) types && not (is_none (sheaf_fault w.site (functor_at w.functors n)))) (NotASheaf n)
+
+  pub found_from : ℕ → Option Fault
+  unfolding tested
+  found_from n = first tested (drop n (range_with_len 0 (length w.functors)))
+
+  pub found_all : found_from 0 ≡ no_sheaf_among w types
+  unfolding found_from no_sheaf_among tested
+  found_all = ap (first tested) (nothing (range_with_len 0 (length w.functors)))
+    where
+      nothing : (l : List ℕ) → drop 0 l ≡ l
+      nothing [] = refl
+      nothing (x ∷ l) = refl
+
+  here : (n : ℕ) → n < length w.functors → get_or (range_with_len 0 (length w.functors)) n 0 ≡ n
+  here n low = get_or-range_with_len 0 (length w.functors) n 0 low ∙ omega arith
+
+  long : length (range_with_len 0 (length w.functors)) ≡ length w.functors
+  long = length-range_with_len 0 (length w.functors)
+
+  pub found_later : (n : ℕ) (b c : Bool) → n < length w.functors → b ≡ list_any (is_functor n) types → c ≡ is_none (sheaf_fault w.site (functor_at w.functors n)) → (b && not c) ≡ false → found_from n ≡ found_from (n + 1)
+  unfolding found_from tested
+  found_later n b c low e f g =
+      first_left-none tested (range_with_len 0 (length w.functors)) n 0 (omega (arith, low, long))
+      (ap tested (here n low) ∙ ap₂ (λ x y. some_if (x && not y) (NotASheaf n)) (sym e) (sym f) ∙ ap (λ x. some_if x (NotASheaf n)) g)
+
+  pub found_here : (n : ℕ) (b c : Bool) → n < length w.functors → b ≡ list_any (is_functor n) types → c ≡ is_none (sheaf_fault w.site (functor_at w.functors n)) → (b && not c) ≡ true → found_from n ≡ Some (NotASheaf n)
+  unfolding found_from tested
+  found_here n b c low e f g =
+      first_left-some tested (range_with_len 0 (length w.functors)) n 0 (NotASheaf n) (omega (arith, low, long))
+      (ap tested (here n low) ∙ ap₂ (λ x y. some_if (x && not y) (NotASheaf n)) (sym e) (sym f) ∙ ap (λ x. some_if x (NotASheaf n)) g)
+
+  pub found_nowhere : (n : ℕ) → length w.functors ≤ n → found_from n ≡ None
+  unfolding found_from
+  found_nowhere n past = first_left-end tested (range_with_len 0 (length w.functors)) n (omega (arith, past, long))
 
 module _ (under : ℕ) (ctx : Ctx) (φ : Term) where
   -- why a formula is refused

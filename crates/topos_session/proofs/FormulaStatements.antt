@@ -1,11 +1,11 @@
 -- Formulas that apply no map: what they mean and count is the same whatever maps are declared; and where the presheaves that they name are sheaves, so are all their types.
-use Rattle.std.proofs.Common.{◌≡◌, ℕ, zero, suc, ◌<◌, Bool, true, false, not, inl, inr, List, [], ◌∷◌, ◌++◌, map, filter, length, reverse, None, Ok, refl, sym, ap, ap₂, subst, slice_index_or, arith}
-use Rattle.std.proofs.Common.{is_none}
-use Rattle.std.specs.List.{All, flat_map}
+use Rattle.std.proofs.Common.{◌≡◌, ℕ, zero, suc, ◌<◌, Bool, true, false, not, inl, inr, List, [], ◌∷◌, ◌++◌, map, filter, length, reverse, None, Ok, refl, sym, ap, ap₂, subst, slice_index_or, arith, is_none, ◌&&◌, Option, Some}
+use Rattle.std.specs.List.{All, flat_map, list_any, range_with_len}
 use Rattle.std.proofs.lemmas.Bool.{and_parts, eq-eqb}
 use Rattle.std.proofs.lemmas.List.{reverse-append}
 use Rattle.finite_lists.specs.Members.{In}
 use Rattle.finite_lists.specs.First.{some_if}
+use Rattle.finite_lists.proofs.DistinctLists.{In-range}
 use Rattle.finite_lists.proofs.FirstAnswers.{first_none_each, some_if-false}
 use Rattle.topos_model.specs.declared.fault.Fault.TheVariants.{NotASheaf}
 use denote.Hole.Carrier
@@ -215,7 +215,7 @@ module _ (s : Site) (lawful : IsCategory s.category) (top : IsTopology s) (funct
   each_sheaf : (m : ℕ) → In (term_needs maps Γ t) (Base m) → IsSheaf s (functor s functors m)
   each_sheaf m i =
       let low = named m i in
-      let one = first_none_each (λ n. some_if (list_any (is_functor n) (term_needs maps Γ t) && not (is_none (sheaf_fault s (functor_at functors n)))) (NotASheaf n)) (range_with_len 0 (length functors)) m none (In-range m (length functors) low) in
+      let one = first_none_each (λ n. some_if (list_any (is_functor n) (term_needs maps Γ t) && not (is_none (sheaf_fault s (functor_at functors n)))) (NotASheaf n)) (range_with_len 0 (length functors)) m none (In-range 0 (length functors) m (omega arith) (omega (arith, low))) in
       faultless_sheaf s lawful top (functor s functors m) (are m low)
       (nothing_found _ (passes (list_any (is_functor m) (term_needs maps Γ t)) _ (some_any (is_functor m) (term_needs maps Γ t) (Base m) i (is_functor-Base m)) (some_if-false _ _ one)))
 

@@ -20,7 +20,6 @@ use Rattle.topos_model.specs.declared.fault.Fault.{Fault}
 use Rattle.topos_model.specs.declared.fault.Fault.TheVariants.{NotBuilt, NotParallel}
 use Rattle.topos_model.specs.categories.Category.{Category}
 use Rattle.topos_model.specs.types.Types.{Presheaf as Functor}
-use Rattle.topos_model.specs.Laws.{IsCategory}
 use Rattle.topos_model.specs.presheaves.Maps.{Components}
 use Rattle.topos_model.specs.presheaves.MapFaults.{listed_map}
 use Rattle.topos_model.specs.presheaves.Limits.{IsEqualizer, IsPullback, IsImage}

@@ -172,6 +172,14 @@ fn is_family_in_range(ends: &[(u32, u32)], family: &Family) -> bool
         .all(|f| goes_into(ends, family.at, *f))
 }
 
+fn are_families_in_range(ends: &[(u32, u32)], families: &[Family]) -> bool
+    ensures { result ≡ list_all (is_family_in_range ends.now) families.now }
+{
+    families
+        .iter()
+        .all(|family| is_family_in_range(ends, family))
+}
+
 // Whether those of the families of a topology do.
 #[tactic(auto, unfolding(crate::specs::Ranges::is_topology_in_range))]
 fn is_topology_in_range(ends: &[(u32, u32)], top: &TopDecl) -> bool
@@ -180,10 +188,7 @@ fn is_topology_in_range(ends: &[(u32, u32)], top: &TopDecl) -> bool
     if top.dense {
         return top.covers.len() == 0;
     }
-    top.covers
-        .as_slice()
-        .iter()
-        .all(|family| is_family_in_range(ends, family))
+    are_families_in_range(ends, top.covers.as_slice())
 }
 
 fn are_topologies_in_range(ends: &[(u32, u32)], tops: &[TopDecl]) -> bool

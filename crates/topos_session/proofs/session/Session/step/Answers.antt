@@ -1,4 +1,4 @@
-use Rattle.std.proofs.Common.{◌≡◌, ◌≤◌, true, refl, sym, ap, subst, ◌∙◌, arith}
+use Rattle.std.proofs.Common.{◌≡◌, ◌≤◌, true, refl, ap, subst, ◌∙◌, arith}
 use Rattle.sealed_world.specs.SealedWorlds.{world_cells}
 use Rattle.topos_session.specs.Progress.{Progress, IsUnderWay}
 use Rattle.topos_session.proofs.DocumentRanges.{ranges}
