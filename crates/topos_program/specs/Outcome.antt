@@ -31,7 +31,7 @@ pub record IsDocumentReport (text written : List ℕ) (ended : Status) : Type 0 
   pub end : End
   pub runs : StagedRunOf doc budget answers end
   pub written_is : written ≡ report doc answers end
-  pub status_is : ended ≡ status_of end
+  pub status_is : ended ≡ status_of answers end
 
 -- The report of a text that is refused for its first fault: it speaks of no document.
 pub record IsTextRefusal (text written : List ℕ) (ended : Status) : Type 0 where

@@ -1,35 +1,21 @@
 -- The text that is written for accepted words and a text that was read, and the status.
-use Rattle.std.specs.Prelude.{◌≡◌, ℕ, Bool, true, cond, List, [], ◌∷◌, Some, None}
-use Rattle.std.specs.List.{list_all}
+use Rattle.std.specs.Prelude.{ℕ, List, [], None}
 use Rattle.topos_model.specs.declared.doc.Doc.{Doc}
 use Rattle.topos_model.specs.declared.answer.Answer.{Answer}
-use Rattle.topos_model.specs.declared.answer.Answer.TheVariants.{Verdict}
 use Rattle.topos_model.specs.declared.answer.End.{End}
 use Rattle.topos_model.specs.declared.answer.End.TheVariants as end
 use Rattle.topos_model.specs.declared.fault.Fault.{Fault}
 use Rattle.topos_model.specs.statements.Run.{RunOf}
 use Rattle.topos_model.specs.statements.Check.{CheckOf}
 use Rattle.topos_text.specs.TextFaults.{SpellsWithin, TextFault}
-use Rattle.topos_report.specs.AnswerLines.{is_empty}
 use Rattle.topos_report.specs.WholeReport.{whole_report}
 use Rattle.topos_report.specs.EmptyDocument.{empty_document}
 use Rattle.topos_program.specs.declared.words.Mode.TheVariants.{Run, Check, Make}
 use Rattle.topos_program.specs.declared.words.Words.{Words}
 use Rattle.topos_program.specs.declared.status.Status.{Status}
-use Rattle.topos_program.specs.declared.status.Status.TheVariants.{Done, NotValid, Refused, Budget}
+use Rattle.topos_program.specs.declared.status.Status.TheVariants.{Refused}
+use Rattle.topos_program.specs.Status.{status_of}
 use Rattle.topos_program.specs.Generated.{generate, made_text}
-
--- no verdict has a tuple that is not forced
-unfoldable pub is_valid : Answer → Bool
-is_valid (Verdict ctx unforced) = list_all is_empty unforced
-is_valid _ = true
-
--- a whole run is done, or has a verdict that is not valid
-unfoldable pub status_after : List Answer → End → Status
-status_after answers (end.Whole cells) = cond (list_all is_valid answers) Done NotValid
-status_after answers (end.Checked statements cells) = Done
-status_after answers (end.Refused at fault) = Refused
-status_after answers (end.Budget at) = Budget
 
 -- the report of a text that is refused: it speaks of no document
 abbrev pub fault_report : Fault → List ℕ
@@ -39,12 +25,12 @@ fault_report fault = whole_report empty_document [] (end.Refused None fault)
 pub data Ran (budget : ℕ) (bytes : List ℕ) : List ℕ → Status → Type 0 where
   refused : {fault : Fault} → TextFault bytes fault → Ran budget bytes (fault_report fault) Refused
   answered : {doc : Doc} {answers : List Answer} {end : End} → SpellsWithin bytes doc → RunOf doc budget answers end
-      → Ran budget bytes (whole_report doc answers end) (status_after answers end)
+      → Ran budget bytes (whole_report doc answers end) (status_of answers end)
 
 -- a text is refused, or the document that it spells is checked
 pub data Checked (budget : ℕ) (bytes : List ℕ) : List ℕ → Status → Type 0 where
   refused : {fault : Fault} → TextFault bytes fault → Checked budget bytes (fault_report fault) Refused
-  checked : {doc : Doc} {end : End} → SpellsWithin bytes doc → CheckOf doc budget end → Checked budget bytes (whole_report doc [] end) (status_after [] end)
+  checked : {doc : Doc} {end : End} → SpellsWithin bytes doc → CheckOf doc budget end → Checked budget bytes (whole_report doc [] end) (status_of [] end)
 
 -- a text is made and run
 pub data Made (budget size : ℕ) : List ℕ → Status → Type 0 where

@@ -3,7 +3,7 @@ ghost use Rattle.std.specs.Prelude.{◌≡◌, ◌<◌, ℕ, List, [], ◌∷◌
 ghost use Rattle.topos_report.specs.EmptyDocument.{no_category, only_topology, empty_document};
 ghost use Rattle.topos_text.specs.TextFaults.{SpellsWithin, TextFault};
 ghost use Rattle.topos_program.specs.Outcome.{IsDocumentReport, IsTextRefusal, IsReportOf, limit};
-ghost use Rattle.topos_program.specs.Status.{IsWithoutVerdict};
+ghost use Rattle.topos_program.specs.Status.{IsReported};
 
 use crate::status::Status;
 use std::alloc::Global;
@@ -71,7 +71,7 @@ fn empty_document(alloc: Global) -> Result<Doc, NoMemory>
 /// The report of a text that is refused for its first fault.
 pub fn refusal(alloc: Global, fault: Fault) -> Result<Report, NoMemory>
     ensures report { IfOk result (λ report. (text : List ℕ) → TextFault text fault → IsTextRefusal text report.text.items report.status) }
-    ensures status { IfOk result (λ report. IsWithoutVerdict report.status) }
+    ensures status { IfOk result (λ report. IsReported report.status) }
 {
     let doc = empty_document(alloc)?;
     let end = End::Refused { at: None, fault };
@@ -85,7 +85,7 @@ pub fn refusal(alloc: Global, fault: Fault) -> Result<Report, NoMemory>
 /// The report of a text that is too long.
 pub fn too_long(alloc: Global) -> Result<Report, NoMemory>
     ensures report { IfOk result (λ report. (text : List ℕ) → limit < length text → IsTextRefusal text report.text.items report.status) }
-    ensures status { IfOk result (λ report. IsWithoutVerdict report.status) }
+    ensures status { IfOk result (λ report. IsReported report.status) }
 {
     refusal(
         alloc,
@@ -99,20 +99,20 @@ pub fn too_long(alloc: Global) -> Result<Report, NoMemory>
 /// The report of a document.
 fn document_report(alloc: Global, doc: Doc) -> Result<Report, NoMemory>
     ensures report { IfOk result (λ report. (text : List ℕ) → SpellsWithin text doc → IsDocumentReport text report.text.items report.status) }
-    ensures status { IfOk result (λ report. IsWithoutVerdict report.status) }
+    ensures status { IfOk result (λ report. IsReported report.status) }
 {
     let run = run_document(alloc, doc, BUDGET)?;
     let text = report_bytes(alloc, &run.doc, run.answers.as_slice(), &run.end)?;
     Ok(Report {
         text,
-        status: Status::of(&run.end),
+        status: Status::of(run.answers.as_slice(), &run.end),
     })
 }
 
 /// The report of a text.
 pub fn answer(alloc: Global, text: &[u8]) -> Result<Report, NoMemory>
     ensures report { IfOk result (λ report. IsReportOf text.now report.text.items report.status) }
-    ensures status { IfOk result (λ report. IsWithoutVerdict report.status) }
+    ensures status { IfOk result (λ report. IsReported report.status) }
 {
     match read(alloc, text) {
         Ok(doc) => document_report(alloc, doc),

@@ -4,7 +4,7 @@ ghost use Rattle.std.specs.Io.KnownBytes.{Appends};
 ghost use Rattle.topos_io.specs.Fault.{Rose};
 ghost use Rattle.topos_program.specs.declared.run.Stop.TheVariants.{NoMemory};
 ghost use Rattle.topos_program.specs.Outcome.{Reports, WritesReport, WritesPart};
-ghost use Rattle.topos_program.specs.Status.{IsReported, IsWithoutVerdict};
+ghost use Rattle.topos_program.specs.Status.{IsReported};
 ghost use Rattle.topos_program.specs.Words.{Accepts};
 
 use crate::report::{Report, answer, too_long};
@@ -45,7 +45,7 @@ fn accepts(words: &[&str]) -> bool
 fn report_of<S: Source>(alloc: Global, src: &mut S) -> Result<Report, Stop>
     ensures reports { IfOk result (λ report. IfSome (S.left src.old) (λ text.
         Reports text report.text.items report.status (S.left src.new))) }
-    ensures status { IfOk result (λ report. IsWithoutVerdict report.status) }
+    ensures status { IfOk result (λ report. IsReported report.status) }
     ensures later { S.faults src.old ≤ S.faults src.new }
     ensures fault { IsErrOf result Stop.Fault → Rose (S.faults src.old) (S.faults src.new) }
 {
@@ -95,9 +95,6 @@ pub fn run<S: Source, K: Sink>(alloc: Global, words: &[&str], src: &mut S, out: 
     // The words alone decide whether anything is done.
     ensures usage { (result ≢ Status.Usage) ↔ Accepts (map (λ word. word.now) words.now) }
     ensures idle { result ≡ Status.Usage → (src.new ≡ src.old) × (out.new ≡ out.old) }
-
-    // No statement with a verdict is run yet.
-    ensures unbuilt { result ≢ Status.NotValid }
 
     ensures later { (S.faults src.old ≤ S.faults src.new) × (K.faults out.old ≤ K.faults out.new) }
 {

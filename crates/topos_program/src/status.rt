@@ -1,8 +1,10 @@
 // How a run ended.
 ghost use Rattle.std.specs.Prelude.{◌≡◌};
-ghost use Rattle.topos_program.specs.Status.{code_of, status_of};
+ghost use Rattle.std.specs.List.{list_all};
+ghost use Rattle.topos_report.specs.AnswerLines.{is_empty};
+ghost use Rattle.topos_program.specs.Status.{is_valid, code_of, status_of};
 
-use topos_model::End;
+use topos_model::{Answer, End, Row, Tuple};
 
 /// How a run ended.
 #[derive(Clone, Copy, Debug, PartialEq, Eq)]
@@ -17,13 +19,50 @@ pub enum Status {
     Usage,
 }
 
+/// Whether there is no tuple.
+fn is_empty(tuples: &Row<Tuple>) -> bool
+    ensures { result ≡ is_empty tuples.now }
+{
+    tuples.len() == 0
+}
+
+/// Whether no object has a tuple.
+fn are_empty(stages: &[Row<Tuple>]) -> bool
+    ensures { result ≡ list_all is_empty stages.now }
+{
+    stages.iter().all(|tuples| is_empty(tuples))
+}
+
+/// Whether an answer is not a verdict with a tuple that is not forced.
+fn is_valid(answer: &Answer) -> bool
+    ensures { result ≡ is_valid answer.now }
+{
+    match answer {
+        Answer::Verdict { unforced, .. } => are_empty(unforced.as_slice()),
+        _ => true,
+    }
+}
+
+/// Whether each verdict is valid.
+fn are_valid(answers: &[Answer]) -> bool
+    ensures { result ≡ list_all is_valid answers.now }
+{
+    answers.iter().all(|answer| is_valid(answer))
+}
+
 impl Status {
     /// The status of a run whose report is written.
-    pub fn of(end: &End) -> Status
-        ensures { result ≡ status_of end.now }
+    pub fn of(answers: &[Answer], end: &End) -> Status
+        ensures { result ≡ status_of answers.now end.now }
     {
         match end {
-            End::Whole { .. } => Status::Done,
+            End::Whole { .. } => {
+                if are_valid(answers) {
+                    Status::Done
+                } else {
+                    Status::NotValid
+                }
+            }
             End::Checked { .. } => Status::Done,
             End::Refused { .. } => Status::Refused,
             End::Budget { .. } => Status::Budget,

@@ -1,6 +1,7 @@
 // Whole runs, over a source and a sink in memory.
 ghost use Rattle.std.specs.Prelude.{◌<◌};
 
+mod formulas;
 mod texts;
 
 use crate::run::run;
@@ -32,7 +33,7 @@ const TABLES: [(&str, &str, Status); 10] = [
         Status::Done,
     ),
     (
-        "object A, B, C; arrow f : A -> B; arrow g : B -> C; arrow h, k : A -> C;",
+        "object A, B, C; arrow f : A -> B; arrow g : B -> C; arrow h, k : A -> C; valid | true;",
         "refused 30 composite missing: g, f\n",
         Status::Refused,
     ),
@@ -68,7 +69,7 @@ const TABLES: [(&str, &str, Status); 10] = [
     ),
     (
         "object U; presheaf X { at U : a; }; presheaf Y { at U : a; }; show { x : X | true }; show { x : X, y : Y | x = y };",
-        "4 show\nU: (a)\n5 refused 11 not built\n",
+        "4 show\nU: (a)\n5 refused 60 expected: X, found: Y\n",
         Status::Refused,
     ),
 ];
@@ -143,7 +144,7 @@ fn run_over(
 /// A run on a text where nothing fails.
 pub fn run_on(alloc: Global, words: &[&str], text: &[u8]) -> Result<Ran, Fail> {
     let mut src = MemSource::new(text.to_vec(alloc)?, 4096, Vec::new(alloc));
-    let mut out = MemSink::new(alloc, 4096, 16, Vec::new(alloc))?;
+    let mut out = MemSink::new(alloc, 131_072, 16, Vec::new(alloc))?;
     run_over(alloc, words, &mut src, &mut out)
 }
 
