@@ -4,7 +4,7 @@ use Rattle.std.specs.List.{list_all}
 use Rattle.std.proofs.lemmas.Bool.{and_parts, leb-true}
 use Rattle.std.proofs.Math.Seq.{drop-cons}
 use Rattle.topos_model.specs.declared.stmt.Stmt.{Stmt}
-use Rattle.topos_model.specs.declared.stmt.Stmt.TheVariants.{Presheaf, Map, Product, Coproduct, Equalizer, Coequalizer, Pullback, Pushout, Image, Empty, Hom, Show, Classify, Valid}
+use Rattle.topos_model.specs.declared.stmt.Stmt.TheVariants.{Presheaf, Map, Product, Coproduct, Equalizer, Coequalizer, Pullback, Pushout, Image, Empty, Sheaf, Hom, Show, Classify, Valid}
 use Rattle.topos_model.specs.declared.doc.Doc.{Doc}
 use Rattle.topos_model.specs.categories.Listed.{all_ends}
 use Rattle.topos_model.specs.statements.Form.{is_category_listing}
@@ -102,6 +102,7 @@ declares_few (Pullback m n z p q) made e = few 1 2 made e (omega arith) (omega a
 declares_few (Pushout m n z i j) made e = few 1 2 made e (omega arith) (omega arith)
 declares_few (Image m z i j) made e = few 1 2 made e (omega arith) (omega arith)
 declares_few (Empty z) made e = few 1 0 made e (omega arith) (omega arith)
+declares_few (Sheaf under x) made e = few 0 0 made e (omega arith) (omega arith)
 declares_few (Hom x y) made e = few 0 0 made e (omega arith) (omega arith)
 declares_few (Show under ctx φ) made e = few 0 0 made e (omega arith) (omega arith)
 declares_few (Classify under ctx φ) made e = few 0 0 made e (omega arith) (omega arith)
@@ -120,6 +121,7 @@ unasked objects ends n l (Coequalizer m m' z q) e = cc
 unasked objects ends n l (Pullback m m' z p q) e = cc
 unasked objects ends n l (Pushout m m' z i j) e = cc
 unasked objects ends n l (Image m z i j) e = cc
+unasked objects ends n l (Sheaf under x) e = cc
 unasked objects ends n l (Hom x y) e = cc
 unasked objects ends n l (Show under ctx φ) e = cc
 unasked objects ends n l (Classify under ctx φ) e = cc

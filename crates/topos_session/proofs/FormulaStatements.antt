@@ -16,7 +16,7 @@ use Rattle.topos_model.specs.declared.term.Term.{Term, Pair', Fst', Snd', App', 
 use Rattle.topos_model.specs.declared.context.Ctx.{Ctx}
 use Rattle.topos_model.specs.declared.context.MapTy.{MapTy}
 use Rattle.topos_model.specs.declared.stmt.Stmt.{Stmt}
-use Rattle.topos_model.specs.declared.stmt.Stmt.TheVariants.{Presheaf as PresheafStmt, Map, Product, Coproduct, Equalizer, Coequalizer, Pullback, Pushout, Image, Empty, Hom, Show, Classify, Valid}
+use Rattle.topos_model.specs.declared.stmt.Stmt.TheVariants.{Presheaf as PresheafStmt, Map, Product, Coproduct, Equalizer, Coequalizer, Pullback, Pushout, Image, Empty, Sheaf, Hom, Show, Classify, Valid}
 use Rattle.topos_model.specs.declared.value.Val.{Val}
 use Rattle.topos_model.specs.topologies.Cover.{Site}
 use Rattle.topos_model.specs.topologies.Sheaves.{IsSheaf, OfSheaves, sheaf_fault}
@@ -238,5 +238,6 @@ needs_same maps objects ends n l (Pullback m m' z p q) range built = refl
 needs_same maps objects ends n l (Pushout m m' z p q) range built = refl
 needs_same maps objects ends n l (Image m z e j) range built = refl
 needs_same maps objects ends n l (Empty z) range built = refl
+needs_same maps objects ends n l (Sheaf under x) range built = refl
 needs_same maps objects ends n l (Hom x y) range built = refl
 needs_same maps objects ends n l _ range built = cc

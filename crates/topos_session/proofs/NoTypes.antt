@@ -2,7 +2,7 @@
 use Rattle.std.proofs.Common.{◌≡◌, ℕ, ◌≤◌, true, [], ◌++◌, refl, sym, ap, subst, ◌∙◌, arith}
 use Rattle.std.proofs.lemmas.List.{append-nil}
 use Rattle.topos_model.specs.declared.stmt.Stmt.{Stmt}
-use Rattle.topos_model.specs.declared.stmt.Stmt.TheVariants.{Presheaf, Map, Product, Coproduct, Equalizer, Coequalizer, Pullback, Pushout, Image, Empty, Hom}
+use Rattle.topos_model.specs.declared.stmt.Stmt.TheVariants.{Presheaf, Map, Product, Coproduct, Equalizer, Coequalizer, Pullback, Pushout, Image, Empty, Sheaf, Hom}
 use Rattle.topos_model.specs.declared.raw.RawFunctor.{RawFunctor}
 use Rattle.topos_model.specs.declared.raw.RawMap.{RawMap}
 use Rattle.topos_model.specs.statements.Needs.{needs, types_of, terms_of}
@@ -19,6 +19,10 @@ needs-Presheaf functor raw = refl
 pub needs-Map : (m x y : ℕ) (raw : RawMap) → needs [] (Map m x y raw) ≡ []
 unfolding needs types_of terms_of
 needs-Map m x y raw = refl
+
+pub needs-Sheaf : (under x : ℕ) → needs [] (Sheaf under x) ≡ []
+unfolding needs types_of terms_of
+needs-Sheaf under x = refl
 
 pub needs-Hom : (x y : ℕ) → needs [] (Hom x y) ≡ []
 unfolding needs types_of terms_of

@@ -13,13 +13,15 @@ use Rattle.topos_model.specs.declared.raw.RawFunctor.{RawFunctor}
 use Rattle.topos_model.specs.declared.raw.RawMap.{RawMap}
 use Rattle.topos_model.specs.declared.doc.Doc.{Doc}
 use Rattle.topos_model.specs.declared.stmt.Stmt.{Stmt}
-use Rattle.topos_model.specs.declared.stmt.Stmt.TheVariants.{Presheaf, Map, Product, Coproduct, Equalizer, Coequalizer, Pullback, Pushout, Image, Empty, Hom, Show, Classify, Valid}
+use Rattle.topos_model.specs.declared.stmt.Stmt.TheVariants.{Presheaf, Map, Product, Coproduct, Equalizer, Coequalizer, Pullback, Pushout, Image, Empty, Sheaf, Hom, Show, Classify, Valid}
 use Rattle.topos_model.specs.declared.answer.Answer.{Answer}
 use Rattle.topos_model.specs.declared.answer.Answer.TheVariants.{Built, Shown, Classified, Verdict}
 use Rattle.topos_model.specs.declared.fault.Fault.{Fault}
 use Rattle.topos_model.specs.declared.fault.Fault.TheVariants.{NotBuilt, NotParallel}
 use Rattle.topos_model.specs.categories.Category.{Category}
 use Rattle.topos_model.specs.types.Types.{Presheaf as Functor}
+use Rattle.topos_model.specs.topologies.Cover.{Site}
+use Rattle.topos_model.specs.topologies.Sheaves.{sheaf_fault}
 use Rattle.topos_model.specs.presheaves.Maps.{Components}
 use Rattle.topos_model.specs.presheaves.MapFaults.{listed_map}
 use Rattle.topos_model.specs.presheaves.Limits.{IsEqualizer, IsPullback, IsImage}
@@ -32,7 +34,7 @@ use Rattle.topos_model.specs.statements.StatementFaults.{foreign_map_fault, typi
 use Rattle.topos_model.specs.formulas.Forcing.{shown}
 use Rattle.formula_answers.specs.Formulas.{world_of}
 use Rattle.topos_model.specs.statements.Declarations.{Declared, DeclaredMap, category_of, site_of, map_ends, world_under, functor_at, domain_at, codomain_at, components_at}
-use Rattle.topos_model.specs.statements.Answers.{tuple_of, unforced, classified, shape_of, map_shape, functor_map, Makes, Answers}
+use Rattle.topos_model.specs.statements.Answers.{tuple_of, unforced, classified, sheaf_answer, shape_of, map_shape, functor_map, Makes, Answers}
 use Rattle.topos_model.specs.statements.Refusals.{foreign_refusal, term_refusal, ends_fit, refusal, late_refusal, IsRefusal}
 use Rattle.topos_session.specs.Ranges.{is_in_range}
 use Rattle.topos_session.specs.Built.{is_formula_built, is_built}
@@ -98,6 +100,7 @@ module _ (doc : Doc) (so : Declarations) (site : so.world.site ≡ site_of doc 0
   unfolding refusal category_of ends_fit foreign_refusal foreign_map_fault terms_of typing_fault types_of is_construction is_built is_in_range
   refusal_is (Presheaf functor raw) range built = refl
   refusal_is (Map m x y raw) range built = refl
+  refusal_is (Sheaf under x) range built = same_fit (Sheaf under x) (unrefused (Sheaf under x) refl refl refl) true refl ∙ sym (ap (λ b. some_if (not b) NotBuilt) built)
   refusal_is (Hom x y) range built = same_fit (Hom x y) (unrefused (Hom x y) refl refl refl) true refl
   refusal_is (Product x y z p q) range built = same_fit _ (unrefused (Product x y z p q) refl refl refl) true refl
   refusal_is (Coproduct x y z p q) range built = same_fit _ (unrefused (Coproduct x y z p q) refl refl refl) true refl
@@ -134,6 +137,7 @@ module _ (doc : Doc) (so : Declarations) (site : so.world.site ≡ site_of doc 0
   as_refusal (Pushout m n z p q) o built e = sym e
   as_refusal (Image m z l j) o built e = sym e
   as_refusal (Empty z) o built e = sym e
+  as_refusal (Sheaf under x) o built e = sym e
   as_refusal (Hom x y) o built e = sym e
   as_refusal (Show under ctx φ) o built e = sym e
   as_refusal (Classify under ctx φ) o built e = sym e
@@ -152,6 +156,7 @@ module _ (doc : Doc) (so : Declarations) (site : so.world.site ≡ site_of doc 0
   no_late_refusal (Pushout m n z p q) types built = refl
   no_late_refusal (Image m z e j) types built = refl
   no_late_refusal (Empty z) types built = refl
+  no_late_refusal (Sheaf under x) types built = refl
   no_late_refusal (Hom x y) types built = refl
   no_late_refusal (Show under ctx φ) types built = refl
   no_late_refusal (Classify under ctx φ) types built = refl
@@ -161,6 +166,10 @@ module _ (doc : Doc) (so : Declarations) (site : so.world.site ≡ site_of doc 0
   built_if : (b : Bool) (o : Option Fault) → or_else (some_if (not b) NotBuilt) o ≡ None → b ≡ true
   built_if true o e = refl
   built_if false o e = cc
+
+  accepted_if : (b : Bool) → some_if (not b) NotBuilt ≡ None → b ≡ true
+  accepted_if true e = refl
+  accepted_if false e = cc
 
   -- what is accepted is run, and what is not run is refused as not built
   pub built_of : (stmt : Stmt) → refusal_over k so stmt ≡ None → is_built stmt ≡ true
@@ -175,6 +184,7 @@ module _ (doc : Doc) (so : Declarations) (site : so.world.site ≡ site_of doc 0
   built_of (Pushout m n z p q) accepted = refl
   built_of (Image m z e j) accepted = refl
   built_of (Empty z) accepted = refl
+  built_of (Sheaf under x) accepted = accepted_if _ accepted
   built_of (Hom x y) accepted = refl
   built_of (Show under ctx φ) accepted = built_if _ _ accepted
   built_of (Classify under ctx φ) accepted = built_if _ _ accepted
@@ -193,6 +203,7 @@ module _ (doc : Doc) (so : Declarations) (site : so.world.site ≡ site_of doc 0
   not_built_of (Pushout m n z p q) out = cc
   not_built_of (Image m z e j) out = cc
   not_built_of (Empty z) out = cc
+  not_built_of (Sheaf under x) out = rw out refl
   not_built_of (Hom x y) out = cc
   not_built_of (Show under ctx φ) out = rw out refl
   not_built_of (Classify under ctx φ) out = rw out refl
@@ -235,6 +246,12 @@ module _ (doc : Doc) (so : Declarations) (site : so.world.site ≡ site_of doc 0
     hom_answers : (x y : ℕ) → AnswersOver k so (Hom x y) answer after → Answers doc d (Hom x y) answer next
     unfolding category_of
     hom_answers x y over = (over.0, ap (λ (so : Declarations). with_counted so types) over.1)
+
+    sheaf_answers : (under x : ℕ) → is_built (Sheaf under x) ≡ true → AnswersOver k so (Sheaf under x) answer after → Answers doc d (Sheaf under x) answer next
+    unfolding category_of is_built
+    sheaf_answers under x built over =
+        let here : so.world.site ≡ site_of doc under = site ∙ ap (site_of doc) (sym (eqb-true under 0 built)) in
+        (over.0 ∙ ap (λ (s : Site). sheaf_answer x (sheaf_fault s (functor_at d x))) here, ap (λ (so : Declarations). with_counted so types) over.1)
 
     show_answers : (under : ℕ) (ctx : Ctx) (φ : Term) → Ranged (Show under ctx φ) → is_built (Show under ctx φ) ≡ true → AnswersOver k so (Show under ctx φ) answer after → Answers doc d (Show under ctx φ) answer next
     unfolding category_of is_built is_in_range
@@ -384,6 +401,7 @@ module _ (doc : Doc) (so : Declarations) (site : so.world.site ≡ site_of doc 0
     unfolding is_built
     answers_are (Presheaf functor raw) range built over = presheaf_answers functor raw over
     answers_are (Map m x y raw) range built over = map_answers m x y raw over
+    answers_are (Sheaf under x) range built over = sheaf_answers under x built over
     answers_are (Hom x y) range built over = hom_answers x y over
     answers_are (Show under ctx φ) range built over = show_answers under ctx φ range built over
     answers_are (Classify under ctx φ) range built over = classify_answers under ctx φ range built over
@@ -418,5 +436,6 @@ built_under (Pullback m n z p q) built = refl
 built_under (Pushout m n z p q) built = refl
 built_under (Image m z p q) built = refl
 built_under (Empty z) built = refl
+built_under (Sheaf j x) built = eqb-true j 0 built
 built_under (Hom x y) built = refl
 built_under _ built = cc

@@ -1,12 +1,18 @@
 -- The answers of statements and their refusals, over what is declared before them.
-use Rattle.std.proofs.Common.{◌≡◌, ℕ, ◌+◌, ◌-◌, ◌<◌, ◌≤◌, [], ◌∷◌, ◌++◌, map, length, Option, Some, None, Err, refl, ap, ◌∙◌, length-append, arith}
+use Rattle.std.proofs.Common.{◌≡◌, ℕ, ◌+◌, ◌-◌, ◌<◌, ◌≤◌, true, eqb, [], ◌∷◌, ◌++◌, map, length, Option, Some, None, Err, refl, ap, ◌∙◌, length-append, arith}
 use Rattle.topos_model.specs.declared.raw.RawFunctor.{RawFunctor}
 use Rattle.topos_model.specs.declared.raw.RawMap.{RawMap}
 use Rattle.topos_model.specs.declared.context.Ctx.{Ctx}
 use Rattle.topos_model.specs.declared.term.Term.{Term}
 use Rattle.topos_model.specs.declared.stmt.Stmt.{Stmt}
-use Rattle.topos_model.specs.declared.stmt.Stmt.TheVariants.{Presheaf, Map, Product, Coproduct, Equalizer, Coequalizer, Pullback, Pushout, Image, Empty, Hom, Show, Classify, Valid}
+use Rattle.topos_model.specs.declared.stmt.Stmt.TheVariants.{Presheaf, Map, Product, Coproduct, Equalizer, Coequalizer, Pullback, Pushout, Image, Empty, Sheaf, Hom, Show, Classify, Valid}
+use Rattle.topos_model.specs.declared.answer.Answer.{Answer}
 use Rattle.topos_model.specs.declared.answer.Answer.TheVariants.{Quiet, Maps}
+use Rattle.topos_model.specs.declared.answer.Answer.TheVariants as answer
+use Rattle.topos_model.specs.topologies.Sheaves.{SheafFault, sheaf_fault}
+use Rattle.sheaf_test.specs.declared.verdict.SheafVerdict.{SheafVerdict}
+use Rattle.sheaf_test.specs.declared.verdict.SheafVerdict.TheVariants as verdict
+use Rattle.sheaf_test.specs.Verdicts.{verdict_of}
 use Rattle.topos_model.specs.declared.fault.Fault.TheVariants.{NotBuilt}
 use Rattle.topos_model.specs.categories.Category.{Category}
 use Rattle.topos_model.specs.types.Types.{Presheaf as Functor}
@@ -18,7 +24,7 @@ use Rattle.topos_model.specs.presheaves.PresheafFaults.{presheaf_fault}
 use Rattle.topos_model.specs.presheaves.MapFaults.{listed_map, map_fault}
 use Rattle.topos_model.specs.statements.Cells.{hom_cells}
 use Rattle.topos_session.specs.Ranges.{declares}
-use Rattle.topos_model.specs.statements.Answers.{map_shape, functor_map}
+use Rattle.topos_model.specs.statements.Answers.{sheaf_answer, map_shape, functor_map}
 use Rattle.presheaf_core.specs.declared.fault.FunctorFault.{FunctorFault}
 use Rattle.presheaf_core.specs.declared.fault.FunctorFault.TheVariants.{RestrictionMissing, NotTotal, NotFunctorial, NoMemory}
 use Rattle.presheaf_core.specs.Faults.{IsFaultOf}
@@ -39,9 +45,9 @@ use Rattle.topos_session.specs.Declarations.{AreLawful, with_presheaf, with_map,
 use Rattle.topos_session.specs.Constructions.{is_construction, between}
 use Rattle.topos_session.specs.Homs.{IsHom, IsUnlisted}
 use Rattle.topos_session.specs.Statements.{refusal_over, IsAnsweredOver, IsStoppedOver, IsOverBudget, by_answer, presheaf_stop, map_stop, store_stop}
-use Rattle.topos_session.proofs.StatementForms.{declares-Presheaf, declares-Map, declares-Hom}
+use Rattle.topos_session.proofs.StatementForms.{declares-Presheaf, declares-Map, declares-Sheaf, declares-Hom}
 use Rattle.topos_session.proofs.LawfulDeclarations.{lawful_presheaf, lawful_map, lawful_cells}
-use Rattle.topos_session.proofs.NoTypes.{needs-Presheaf, needs-Map, needs-Hom, sealed_already, types_free}
+use Rattle.topos_session.proofs.NoTypes.{needs-Presheaf, needs-Map, needs-Sheaf, needs-Hom, sealed_already, types_free}
 
 -- the counts of what a statement declares
 counts : (a b m n : ℕ) → ◌≡◌ {A = Option (ℕ × ℕ)} (Some (a, b)) (Some (m + a - m, n + b - n))
@@ -49,6 +55,15 @@ counts a b m n = same (m + a - m) (n + b - n) (omega arith) (omega arith)
   where
     same : (c d : ℕ) → a ≡ c → b ≡ d → ◌≡◌ {A = Option (ℕ × ℕ)} (Some (a, b)) (Some (c, d))
     same c d e f = rw (e, f) refl
+
+-- the answer of a test
+abbrev pub answer_of : ℕ → SheafVerdict → Answer
+answer_of x verdict.Sheaf = answer.Sheaf
+answer_of x (verdict.Fails at cover family found) = answer.NotSheaf x at cover family found
+
+answer_is : (x : ℕ) (o : Option SheafFault) → answer_of x (verdict_of o) ≡ sheaf_answer x o
+answer_is x None = refl
+answer_is x (Some fault) = refl
 
 module _ (k : Category) (so : Declarations) where
   -- what is counted behind a statement that declares this many functors and maps
@@ -102,6 +117,23 @@ module _ (k : Category) (so : Declarations) where
             maps = omega (arith, longer);
             kept = (refl, refl, refl);
           }
+
+    -- a presheaf is tested
+    module _ (under x : ℕ) (first : eqb under 0 ≡ true) where
+      pub sheaf_tested : (verdict : SheafVerdict) → verdict ≡ verdict_of (sheaf_fault so.world.site (functor_at so.world.functors x)) → AreLawful k so → IsAnsweredOver k so (Sheaf under x) (answer_of x verdict) so
+      sheaf_tested verdict is lawful = record {
+        accepted = rw first refl;
+        mid = so;
+        sealed = sealed_already so (Sheaf under x) (needs-Sheaf under x);
+        types_fit = types_free so (Sheaf under x) (needs-Sheaf under x) fits;
+        answers = (ap (answer_of x) is ∙ answer_is x (sheaf_fault so.world.site (functor_at so.world.functors x)), refl);
+        within = fits;
+        lawful = lawful;
+        declared = declared_counts (Sheaf under x) 0 0 so (declares-Sheaf under x) (omega arith) (omega arith);
+        functors = omega arith;
+        maps = omega arith;
+        kept = (refl, refl, refl);
+      }
 
     -- all maps are listed
     module _ (x y : ℕ) where
@@ -165,24 +197,26 @@ module _ (k : Category) (so : Declarations) where
       → ((m n z i j : ℕ) → stmt ≡ Pushout m n z i j → ⊥)
       → ((m z e j : ℕ) → stmt ≡ Image m z e j → ⊥)
       → ((z : ℕ) → stmt ≡ Empty z → ⊥)
+      → ((under x : ℕ) → stmt ≡ Sheaf under x → ⊥)
       → ((x y : ℕ) → stmt ≡ Hom x y → ⊥)
       → ((under : ℕ) (ctx : Ctx) (φ : Term) → stmt ≡ Show under ctx φ → ⊥)
       → ((under : ℕ) (ctx : Ctx) (φ : Term) → stmt ≡ Classify under ctx φ → ⊥)
       → ((under : ℕ) (ctx : Ctx) (φ : Term) → stmt ≡ Valid under ctx φ → ⊥)
       → refusal_over k so stmt ≡ Some NotBuilt
   unfolding is_construction
-  refused_other (Presheaf functor raw) h _ _ _ _ _ _ _ _ _ _ _ _ _ = absurd (h functor raw refl)
-  refused_other (Map m x y raw) _ h _ _ _ _ _ _ _ _ _ _ _ _ = absurd (h m x y raw refl)
-  refused_other (Product x y z p q) _ _ h _ _ _ _ _ _ _ _ _ _ _ = absurd (h x y z p q refl)
-  refused_other (Coproduct x y z p q) _ _ _ h _ _ _ _ _ _ _ _ _ _ = absurd (h x y z p q refl)
-  refused_other (Equalizer m n z i) _ _ _ _ h _ _ _ _ _ _ _ _ _ = absurd (h m n z i refl)
-  refused_other (Coequalizer m n z q) _ _ _ _ _ h _ _ _ _ _ _ _ _ = absurd (h m n z q refl)
-  refused_other (Pullback m n z p q) _ _ _ _ _ _ h _ _ _ _ _ _ _ = absurd (h m n z p q refl)
-  refused_other (Pushout m n z i j) _ _ _ _ _ _ _ h _ _ _ _ _ _ = absurd (h m n z i j refl)
-  refused_other (Image m z e j) _ _ _ _ _ _ _ _ h _ _ _ _ _ = absurd (h m z e j refl)
-  refused_other (Empty z) _ _ _ _ _ _ _ _ _ h _ _ _ _ = absurd (h z refl)
-  refused_other (Hom x y) _ _ _ _ _ _ _ _ _ _ h _ _ _ = absurd (h x y refl)
-  refused_other (Show under ctx φ) _ _ _ _ _ _ _ _ _ _ _ h _ _ = absurd (h under ctx φ refl)
-  refused_other (Classify under ctx φ) _ _ _ _ _ _ _ _ _ _ _ _ h _ = absurd (h under ctx φ refl)
-  refused_other (Valid under ctx φ) _ _ _ _ _ _ _ _ _ _ _ _ _ h = absurd (h under ctx φ refl)
-  refused_other _ _ _ _ _ _ _ _ _ _ _ _ _ _ _ = refl
+  refused_other (Presheaf functor raw) h _ _ _ _ _ _ _ _ _ _ _ _ _ _ = absurd (h functor raw refl)
+  refused_other (Map m x y raw) _ h _ _ _ _ _ _ _ _ _ _ _ _ _ = absurd (h m x y raw refl)
+  refused_other (Product x y z p q) _ _ h _ _ _ _ _ _ _ _ _ _ _ _ = absurd (h x y z p q refl)
+  refused_other (Coproduct x y z p q) _ _ _ h _ _ _ _ _ _ _ _ _ _ _ = absurd (h x y z p q refl)
+  refused_other (Equalizer m n z i) _ _ _ _ h _ _ _ _ _ _ _ _ _ _ = absurd (h m n z i refl)
+  refused_other (Coequalizer m n z q) _ _ _ _ _ h _ _ _ _ _ _ _ _ _ = absurd (h m n z q refl)
+  refused_other (Pullback m n z p q) _ _ _ _ _ _ h _ _ _ _ _ _ _ _ = absurd (h m n z p q refl)
+  refused_other (Pushout m n z i j) _ _ _ _ _ _ _ h _ _ _ _ _ _ _ = absurd (h m n z i j refl)
+  refused_other (Image m z e j) _ _ _ _ _ _ _ _ h _ _ _ _ _ _ = absurd (h m z e j refl)
+  refused_other (Empty z) _ _ _ _ _ _ _ _ _ h _ _ _ _ _ = absurd (h z refl)
+  refused_other (Sheaf under x) _ _ _ _ _ _ _ _ _ _ h _ _ _ _ = absurd (h under x refl)
+  refused_other (Hom x y) _ _ _ _ _ _ _ _ _ _ _ h _ _ _ = absurd (h x y refl)
+  refused_other (Show under ctx φ) _ _ _ _ _ _ _ _ _ _ _ _ h _ _ = absurd (h under ctx φ refl)
+  refused_other (Classify under ctx φ) _ _ _ _ _ _ _ _ _ _ _ _ _ h _ = absurd (h under ctx φ refl)
+  refused_other (Valid under ctx φ) _ _ _ _ _ _ _ _ _ _ _ _ _ _ h = absurd (h under ctx φ refl)
+  refused_other _ _ _ _ _ _ _ _ _ _ _ _ _ _ _ _ = refl

@@ -5,7 +5,7 @@ use Rattle.topos_model.specs.declared.raw.RawMap.{RawMap}
 use Rattle.topos_model.specs.declared.context.Ctx.{Ctx}
 use Rattle.topos_model.specs.declared.term.Term.{Term}
 use Rattle.topos_model.specs.declared.stmt.Stmt.{Stmt}
-use Rattle.topos_model.specs.declared.stmt.Stmt.TheVariants.{Presheaf, Map, Product, Coproduct, Equalizer, Coequalizer, Pullback, Pushout, Image, Empty, Hom, Show, Classify, Valid}
+use Rattle.topos_model.specs.declared.stmt.Stmt.TheVariants.{Presheaf, Map, Product, Coproduct, Equalizer, Coequalizer, Pullback, Pushout, Image, Empty, Sheaf, Hom, Show, Classify, Valid}
 use Rattle.topos_session.specs.Constructions.{is_construction}
 use Rattle.topos_model.specs.statements.Form.{is_presheaf_listing, is_map_listing}
 use Rattle.topos_session.specs.Ranges.{is_formula_in_range, declares, is_in_range}
@@ -53,6 +53,10 @@ pub range-Image : (objects : ℕ) (ends : List (ℕ × ℕ)) (n l : ℕ) (m z e 
 unfolding is_in_range
 range-Image objects ends n l m z e j = refl
 
+pub range-Sheaf : (objects : ℕ) (ends : List (ℕ × ℕ)) (n l : ℕ) (under x : ℕ) → is_in_range objects ends n l (Sheaf under x) ≡ ltb x n
+unfolding is_in_range
+range-Sheaf objects ends n l under x = refl
+
 pub range-Hom : (objects : ℕ) (ends : List (ℕ × ℕ)) (n l : ℕ) (x y : ℕ) → is_in_range objects ends n l (Hom x y) ≡ (ltb x n && ltb y n)
 unfolding is_in_range
 range-Hom objects ends n l x y = refl
@@ -79,28 +83,30 @@ pub range-other : (objects : ℕ) (ends : List (ℕ × ℕ)) (n l : ℕ) (stmt :
     → ((m m' z p q : ℕ) → stmt ≡ Pullback m m' z p q → ⊥)
     → ((m m' z i j : ℕ) → stmt ≡ Pushout m m' z i j → ⊥)
     → ((m z e j : ℕ) → stmt ≡ Image m z e j → ⊥)
+    → ((under x : ℕ) → stmt ≡ Sheaf under x → ⊥)
     → ((x y : ℕ) → stmt ≡ Hom x y → ⊥)
     → ((under : ℕ) (ctx : Ctx) (φ : Term) → stmt ≡ Show under ctx φ → ⊥)
     → ((under : ℕ) (ctx : Ctx) (φ : Term) → stmt ≡ Classify under ctx φ → ⊥)
     → ((under : ℕ) (ctx : Ctx) (φ : Term) → stmt ≡ Valid under ctx φ → ⊥)
     → is_in_range objects ends n l stmt ≡ true
 unfolding is_in_range
-range-other objects ends n l (Presheaf functor raw) h _ _ _ _ _ _ _ _ _ _ _ _ = absurd (h functor raw refl)
-range-other objects ends n l (Map m x y raw) _ h _ _ _ _ _ _ _ _ _ _ _ = absurd (h m x y raw refl)
-range-other objects ends n l (Product x y z p q) _ _ h _ _ _ _ _ _ _ _ _ _ = absurd (h x y z p q refl)
-range-other objects ends n l (Coproduct x y z p q) _ _ _ h _ _ _ _ _ _ _ _ _ = absurd (h x y z p q refl)
-range-other objects ends n l (Equalizer m m' z i) _ _ _ _ h _ _ _ _ _ _ _ _ = absurd (h m m' z i refl)
-range-other objects ends n l (Coequalizer m m' z q) _ _ _ _ _ h _ _ _ _ _ _ _ = absurd (h m m' z q refl)
-range-other objects ends n l (Pullback m m' z p q) _ _ _ _ _ _ h _ _ _ _ _ _ = absurd (h m m' z p q refl)
-range-other objects ends n l (Pushout m m' z i j) _ _ _ _ _ _ _ h _ _ _ _ _ = absurd (h m m' z i j refl)
-range-other objects ends n l (Image m z e j) _ _ _ _ _ _ _ _ h _ _ _ _ = absurd (h m z e j refl)
-range-other objects ends n l (Hom x y) _ _ _ _ _ _ _ _ _ h _ _ _ = absurd (h x y refl)
-range-other objects ends n l (Show under ctx φ) _ _ _ _ _ _ _ _ _ _ h _ _ = absurd (h under ctx φ refl)
-range-other objects ends n l (Classify under ctx φ) _ _ _ _ _ _ _ _ _ _ _ h _ = absurd (h under ctx φ refl)
-range-other objects ends n l (Valid under ctx φ) _ _ _ _ _ _ _ _ _ _ _ _ h = absurd (h under ctx φ refl)
-range-other objects ends n l _ _ _ _ _ _ _ _ _ _ _ _ _ _ = refl
+range-other objects ends n l (Presheaf functor raw) h _ _ _ _ _ _ _ _ _ _ _ _ _ = absurd (h functor raw refl)
+range-other objects ends n l (Map m x y raw) _ h _ _ _ _ _ _ _ _ _ _ _ _ = absurd (h m x y raw refl)
+range-other objects ends n l (Product x y z p q) _ _ h _ _ _ _ _ _ _ _ _ _ _ = absurd (h x y z p q refl)
+range-other objects ends n l (Coproduct x y z p q) _ _ _ h _ _ _ _ _ _ _ _ _ _ = absurd (h x y z p q refl)
+range-other objects ends n l (Equalizer m m' z i) _ _ _ _ h _ _ _ _ _ _ _ _ _ = absurd (h m m' z i refl)
+range-other objects ends n l (Coequalizer m m' z q) _ _ _ _ _ h _ _ _ _ _ _ _ _ = absurd (h m m' z q refl)
+range-other objects ends n l (Pullback m m' z p q) _ _ _ _ _ _ h _ _ _ _ _ _ _ = absurd (h m m' z p q refl)
+range-other objects ends n l (Pushout m m' z i j) _ _ _ _ _ _ _ h _ _ _ _ _ _ = absurd (h m m' z i j refl)
+range-other objects ends n l (Image m z e j) _ _ _ _ _ _ _ _ h _ _ _ _ _ = absurd (h m z e j refl)
+range-other objects ends n l (Sheaf under x) _ _ _ _ _ _ _ _ _ h _ _ _ _ = absurd (h under x refl)
+range-other objects ends n l (Hom x y) _ _ _ _ _ _ _ _ _ _ h _ _ _ = absurd (h x y refl)
+range-other objects ends n l (Show under ctx φ) _ _ _ _ _ _ _ _ _ _ _ h _ _ = absurd (h under ctx φ refl)
+range-other objects ends n l (Classify under ctx φ) _ _ _ _ _ _ _ _ _ _ _ _ h _ = absurd (h under ctx φ refl)
+range-other objects ends n l (Valid under ctx φ) _ _ _ _ _ _ _ _ _ _ _ _ _ h = absurd (h under ctx φ refl)
+range-other objects ends n l _ _ _ _ _ _ _ _ _ _ _ _ _ _ _ = refl
 
-pub ruleset range_rules = (range-Presheaf, range-Map, range-Product, range-Coproduct, range-Equalizer, range-Coequalizer, range-Pullback, range-Pushout, range-Image, range-Hom, range-Show, range-Classify, range-Valid)
+pub ruleset range_rules = (range-Presheaf, range-Map, range-Product, range-Coproduct, range-Equalizer, range-Coequalizer, range-Pullback, range-Pushout, range-Image, range-Sheaf, range-Hom, range-Show, range-Classify, range-Valid)
 
 pub declares-Presheaf : (functor : ℕ) (raw : RawFunctor) → declares (Presheaf functor raw) ≡ Some (1, 0)
 unfolding declares
@@ -142,6 +148,10 @@ pub declares-Empty : (z : ℕ) → declares (Empty z) ≡ Some (1, 0)
 unfolding declares
 declares-Empty z = refl
 
+pub declares-Sheaf : (under x : ℕ) → declares (Sheaf under x) ≡ Some (0, 0)
+unfolding declares
+declares-Sheaf under x = refl
+
 pub declares-Hom : (x y : ℕ) → declares (Hom x y) ≡ Some (0, 0)
 unfolding declares
 declares-Hom x y = refl
@@ -169,29 +179,31 @@ pub declares-other : (stmt : Stmt)
     → ((m m' z i j : ℕ) → stmt ≡ Pushout m m' z i j → ⊥)
     → ((m z e j : ℕ) → stmt ≡ Image m z e j → ⊥)
     → ((z : ℕ) → stmt ≡ Empty z → ⊥)
+    → ((under x : ℕ) → stmt ≡ Sheaf under x → ⊥)
     → ((x y : ℕ) → stmt ≡ Hom x y → ⊥)
     → ((under : ℕ) (ctx : Ctx) (φ : Term) → stmt ≡ Show under ctx φ → ⊥)
     → ((under : ℕ) (ctx : Ctx) (φ : Term) → stmt ≡ Classify under ctx φ → ⊥)
     → ((under : ℕ) (ctx : Ctx) (φ : Term) → stmt ≡ Valid under ctx φ → ⊥)
     → declares stmt ≡ None
 unfolding declares
-declares-other (Presheaf functor raw) h _ _ _ _ _ _ _ _ _ _ _ _ _ = absurd (h functor raw refl)
-declares-other (Map m x y raw) _ h _ _ _ _ _ _ _ _ _ _ _ _ = absurd (h m x y raw refl)
-declares-other (Product x y z p q) _ _ h _ _ _ _ _ _ _ _ _ _ _ = absurd (h x y z p q refl)
-declares-other (Coproduct x y z p q) _ _ _ h _ _ _ _ _ _ _ _ _ _ = absurd (h x y z p q refl)
-declares-other (Equalizer m m' z i) _ _ _ _ h _ _ _ _ _ _ _ _ _ = absurd (h m m' z i refl)
-declares-other (Coequalizer m m' z q) _ _ _ _ _ h _ _ _ _ _ _ _ _ = absurd (h m m' z q refl)
-declares-other (Pullback m m' z p q) _ _ _ _ _ _ h _ _ _ _ _ _ _ = absurd (h m m' z p q refl)
-declares-other (Pushout m m' z i j) _ _ _ _ _ _ _ h _ _ _ _ _ _ = absurd (h m m' z i j refl)
-declares-other (Image m z e j) _ _ _ _ _ _ _ _ h _ _ _ _ _ = absurd (h m z e j refl)
-declares-other (Empty z) _ _ _ _ _ _ _ _ _ h _ _ _ _ = absurd (h z refl)
-declares-other (Hom x y) _ _ _ _ _ _ _ _ _ _ h _ _ _ = absurd (h x y refl)
-declares-other (Show under ctx φ) _ _ _ _ _ _ _ _ _ _ _ h _ _ = absurd (h under ctx φ refl)
-declares-other (Classify under ctx φ) _ _ _ _ _ _ _ _ _ _ _ _ h _ = absurd (h under ctx φ refl)
-declares-other (Valid under ctx φ) _ _ _ _ _ _ _ _ _ _ _ _ _ h = absurd (h under ctx φ refl)
-declares-other _ _ _ _ _ _ _ _ _ _ _ _ _ _ _ = refl
+declares-other (Presheaf functor raw) h _ _ _ _ _ _ _ _ _ _ _ _ _ _ = absurd (h functor raw refl)
+declares-other (Map m x y raw) _ h _ _ _ _ _ _ _ _ _ _ _ _ _ = absurd (h m x y raw refl)
+declares-other (Product x y z p q) _ _ h _ _ _ _ _ _ _ _ _ _ _ _ = absurd (h x y z p q refl)
+declares-other (Coproduct x y z p q) _ _ _ h _ _ _ _ _ _ _ _ _ _ _ = absurd (h x y z p q refl)
+declares-other (Equalizer m m' z i) _ _ _ _ h _ _ _ _ _ _ _ _ _ _ = absurd (h m m' z i refl)
+declares-other (Coequalizer m m' z q) _ _ _ _ _ h _ _ _ _ _ _ _ _ _ = absurd (h m m' z q refl)
+declares-other (Pullback m m' z p q) _ _ _ _ _ _ h _ _ _ _ _ _ _ _ = absurd (h m m' z p q refl)
+declares-other (Pushout m m' z i j) _ _ _ _ _ _ _ h _ _ _ _ _ _ _ = absurd (h m m' z i j refl)
+declares-other (Image m z e j) _ _ _ _ _ _ _ _ h _ _ _ _ _ _ = absurd (h m z e j refl)
+declares-other (Empty z) _ _ _ _ _ _ _ _ _ h _ _ _ _ _ = absurd (h z refl)
+declares-other (Sheaf under x) _ _ _ _ _ _ _ _ _ _ h _ _ _ _ = absurd (h under x refl)
+declares-other (Hom x y) _ _ _ _ _ _ _ _ _ _ _ h _ _ _ = absurd (h x y refl)
+declares-other (Show under ctx φ) _ _ _ _ _ _ _ _ _ _ _ _ h _ _ = absurd (h under ctx φ refl)
+declares-other (Classify under ctx φ) _ _ _ _ _ _ _ _ _ _ _ _ _ h _ = absurd (h under ctx φ refl)
+declares-other (Valid under ctx φ) _ _ _ _ _ _ _ _ _ _ _ _ _ _ h = absurd (h under ctx φ refl)
+declares-other _ _ _ _ _ _ _ _ _ _ _ _ _ _ _ _ = refl
 
-pub ruleset declared_rules = (declares-Presheaf, declares-Map, declares-Product, declares-Coproduct, declares-Equalizer, declares-Coequalizer, declares-Pullback, declares-Pushout, declares-Image, declares-Empty, declares-Hom, declares-Show, declares-Classify, declares-Valid)
+pub ruleset declared_rules = (declares-Presheaf, declares-Map, declares-Product, declares-Coproduct, declares-Equalizer, declares-Coequalizer, declares-Pullback, declares-Pushout, declares-Image, declares-Empty, declares-Sheaf, declares-Hom, declares-Show, declares-Classify, declares-Valid)
 
 pub construction-Product : (x y z p q : ℕ) → is_construction (Product x y z p q) ≡ true
 unfolding is_construction
@@ -262,6 +274,7 @@ declares_few (Pullback m n z p q) a b e = at_most 1 a (ap first e) (omega arith)
 declares_few (Pushout m n z i j) a b e = at_most 1 a (ap first e) (omega arith)
 declares_few (Image m z k j) a b e = at_most 1 a (ap first e) (omega arith)
 declares_few (Empty z) a b e = at_most 1 a (ap first e) (omega arith)
+declares_few (Sheaf under x) a b e = at_most 0 a (ap first e) (omega arith)
 declares_few (Hom x y) a b e = at_most 0 a (ap first e) (omega arith)
 declares_few (Show under ctx φ) a b e = at_most 0 a (ap first e) (omega arith)
 declares_few (Classify under ctx φ) a b e = at_most 0 a (ap first e) (omega arith)

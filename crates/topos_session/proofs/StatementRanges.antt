@@ -10,14 +10,14 @@ use Rattle.topos_model.specs.declared.raw.RawMap.{RawMap}
 use Rattle.topos_model.specs.declared.context.Ctx.{Ctx}
 use Rattle.topos_model.specs.declared.term.Term.{Term}
 use Rattle.topos_model.specs.declared.stmt.Stmt.{Stmt}
-use Rattle.topos_model.specs.declared.stmt.Stmt.TheVariants.{Presheaf, Map, Hom, Show, Classify, Valid}
+use Rattle.topos_model.specs.declared.stmt.Stmt.TheVariants.{Presheaf, Map, Sheaf, Hom, Show, Classify, Valid}
 use Rattle.topos_model.specs.categories.Category.{Category, dom, cod}
 use Rattle.topos_model.specs.presheaves.PresheafFaults.{IsPresheafListing}
 use Rattle.topos_model.specs.presheaves.MapFaults.{has_image, IsMapListing}
 use Rattle.topos_model.specs.statements.Form.{along_fits, is_presheaf_listing, is_map_listing}
 use Rattle.topos_session.specs.Ranges.{is_formula_in_range, is_in_range}
 use Rattle.topos_session.proofs.DistinctNumbers.{distinct_numbers}
-use Rattle.topos_session.proofs.StatementForms.{range-Presheaf, range-Map, range-Hom, range-Show, range-Classify, range-Valid}
+use Rattle.topos_session.proofs.StatementForms.{range-Presheaf, range-Map, range-Sheaf, range-Hom, range-Show, range-Classify, range-Valid}
 
 -- a listed presheaf has sizes for all objects, and restrictions of elements to elements
 along_in_range : (k : Category) (raw : RawFunctor) (a : RawAlong) → along_fits k.objects k.ends raw.sizes a ≡ true →
@@ -88,6 +88,9 @@ map_range k n l stmt m x y raw is range =
       codomain = ltb-true _ _ high;
       listing = record { objects = entries_within k.objects raw.entries listing; once = entries_distinct k.objects raw.entries listing };
     }
+
+pub sheaf_range : (k : Category) (n l : ℕ) (stmt : Stmt) (under x : ℕ) → stmt ≡ Sheaf under x → is_in_range k.objects k.ends n l stmt ≡ true → x < n
+sheaf_range k n l stmt under x is range = ltb-true _ _ (sym (range-Sheaf k.objects k.ends n l under x) ∙ ap (is_in_range k.objects k.ends n l) (sym is) ∙ range)
 
 pub hom_range : (k : Category) (n l : ℕ) (stmt : Stmt) (x y : ℕ) → stmt ≡ Hom x y → is_in_range k.objects k.ends n l stmt ≡ true → (x < n) × (y < n)
 hom_range k n l stmt x y is range =

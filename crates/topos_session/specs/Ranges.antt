@@ -4,7 +4,7 @@ use Rattle.std.specs.List.{list_all}
 use Rattle.topos_model.specs.declared.context.Ctx.{Ctx}
 use Rattle.topos_model.specs.declared.term.Term.{Term, Pair', Fst', Snd', App', Eval', Lam', Compr', Eq', Member', And', Or', Implies', Not', Forall', Exists', Unique', more_of-Term as only, end_of-Term as end}
 use Rattle.topos_model.specs.declared.stmt.Stmt.{Stmt}
-use Rattle.topos_model.specs.declared.stmt.Stmt.TheVariants.{Presheaf, Map, Product, Coproduct, Equalizer, Coequalizer, Pullback, Pushout, Image, Empty, Hom, Show, Classify, Valid}
+use Rattle.topos_model.specs.declared.stmt.Stmt.TheVariants.{Presheaf, Map, Product, Coproduct, Equalizer, Coequalizer, Pullback, Pushout, Image, Empty, Sheaf, Hom, Show, Classify, Valid}
 use Rattle.topos_model.specs.declared.raw.Family.{Family}
 use Rattle.topos_model.specs.declared.doc.TopDecl.{TopDecl}
 use Rattle.topos_model.specs.declared.doc.Doc.{Doc}
@@ -44,6 +44,7 @@ declares (Pullback m n z p q) = Some (1, 2)
 declares (Pushout m n z i j) = Some (1, 2)
 declares (Image m z e j) = Some (1, 2)
 declares (Empty z) = Some (1, 0)
+declares (Sheaf under x) = Some (0, 0)
 declares (Hom x y) = Some (0, 0)
 declares (Show under ctx φ) = Some (0, 0)
 declares (Classify under ctx φ) = Some (0, 0)
@@ -65,6 +66,7 @@ is_in_range objects ends n l (Coequalizer m m' z q) = eqb z n && ltb m l && ltb 
 is_in_range objects ends n l (Pullback m m' z p q) = eqb z n && ltb m l && ltb m' l
 is_in_range objects ends n l (Pushout m m' z i j) = eqb z n && ltb m l && ltb m' l
 is_in_range objects ends n l (Image m z e j) = eqb z n && ltb m l
+is_in_range objects ends n l (Sheaf under x) = ltb x n
 is_in_range objects ends n l (Hom x y) = ltb x n && ltb y n
 is_in_range objects ends n l (Show under ctx φ) = is_formula_in_range n l ctx φ
 is_in_range objects ends n l (Classify under ctx φ) = is_formula_in_range n l ctx φ

@@ -1,5 +1,5 @@
 -- What the statements that are run answer over declared functors and maps, and why they are refused.
-use Rattle.std.specs.Prelude.{◌≡◌, ◌↔◌, ℕ, ◌-◌, ◌≤◌, ◌<◌, true, false, not, List, [], map, reverse, length, flat_map, is_none, Option, Some, None, Ok, ⊤}
+use Rattle.std.specs.Prelude.{◌≡◌, ◌↔◌, ℕ, ◌-◌, ◌≤◌, ◌<◌, true, false, not, eqb, List, [], map, reverse, length, flat_map, is_none, Option, Some, None, Ok, ⊤}
 use Rattle.finite_lists.specs.First.{or_else, some_if}
 use Rattle.topos_model.specs.declared.stmt.Stmt.{Stmt}
 use Rattle.topos_model.specs.declared.stmt.Stmt.TheVariants as statement
@@ -37,7 +37,7 @@ use Rattle.topos_model.specs.presheaves.PresheafFaults.{presheaf_fault as fault_
 use Rattle.topos_model.specs.presheaves.MapFaults.{listed_map, map_fault as fault_of_map}
 use Rattle.topos_model.specs.statements.Needs.{needs, parts, term_needs, first_no_sheaf}
 use Rattle.topos_model.specs.statements.Cells.{objects_of, hom_cells}
-use Rattle.topos_model.specs.statements.Answers.{tuple_of, unforced, classified, shape_of, map_shape, functor_map}
+use Rattle.topos_model.specs.statements.Answers.{tuple_of, unforced, classified, sheaf_answer, shape_of, map_shape, functor_map}
 use Rattle.topos_session.specs.Ranges.{declares}
 use Rattle.topos_session.specs.Built.{is_formula_built}
 use Rattle.topos_session.specs.Functors.{functor_at}
@@ -84,6 +84,7 @@ abbrev pub AnswersOver : Category → Declarations → Stmt → Answer → Decla
 AnswersOver k so (statement.Presheaf functor raw) answer after = (answer ≡ Quiet) × (after ≡ with_presheaf so (filled_presheaf k raw))
 AnswersOver k so (statement.Map m x y raw) answer after =
     (answer ≡ Quiet) × (after ≡ with_map so (between x y (listed_map k (functor_at so.world.functors x) raw)))
+AnswersOver k so (statement.Sheaf under x) answer after = (answer ≡ sheaf_answer x (sheaf_fault so.world.site (functor_at so.world.functors x))) × (after ≡ so)
 AnswersOver k so (statement.Hom x y) answer after =
     let listed = maps k (functor_at so.world.functors x) (functor_at so.world.functors y) in
     (answer ≡ Maps (map (λ m. map_shape (functor_map x y m)) listed)) × (after ≡ with_cells so (hom_cells (length listed) (functor_at so.world.functors x)))
@@ -113,6 +114,7 @@ formula_needs ctx φ = term_needs [] (reverse ctx.types) φ
 abbrev pub refusal_over : Category → Declarations → Stmt → Option Fault
 refusal_over k so (statement.Presheaf functor raw) = fault_of_presheaf k raw
 refusal_over k so (statement.Map m x y raw) = fault_of_map k (functor_at so.world.functors x) (functor_at so.world.functors y) raw
+refusal_over k so (statement.Sheaf under x) = some_if (not (eqb under 0)) refused.NotBuilt
 refusal_over k so (statement.Hom x y) = None
 refusal_over k so (statement.Show under ctx φ) = formula_refusal so.world under ctx φ
 refusal_over k so (statement.Classify under ctx φ) = formula_refusal so.world under ctx φ

@@ -18,6 +18,7 @@ use crate::shapes::built;
 use functor_store::Over;
 use natural_maps::NatMap;
 use presheaf_core::Functor;
+use sheaf_test::{SheafVerdict, test};
 use std::alloc::Global;
 use topos_model::{Answer, Fault, RawFunctor, RawMap, Stmt};
 
@@ -109,6 +110,34 @@ fn list(alloc: Global, so: &mut Declarations, ends: (u32, u32)) -> Result<Answer
     Ok(Answer::Maps(listed.shapes))
 }
 
+// Tests whether a presheaf is a sheaf.
+fn test_sheaf(alloc: Global, so: &Declarations, under: u32, x: u32) -> Result<Answer, Stop>
+    requires lawful { AreLawful so.now.world.site.category so.now }
+    requires range { x < length so.now.world.functors }
+    requires fits { world_cells so.now.world ≤ so.now.world.budget }
+    ensures answer { IfOk result (λ answer. IsAnsweredOver so.now.world.site.category so.now (statement.Sheaf under x) answer so.now) }
+    ensures stop { IfErr result (IsStoppedOver so.now.world.site.category so.now (statement.Sheaf under x)) }
+{
+    if under != 0 {
+        return Err(Stop::Refused(Fault::NotBuilt));
+    }
+    match test(alloc, so.world.site(), so.functor(x))? {
+        SheafVerdict::Sheaf => Ok(Answer::Sheaf),
+        SheafVerdict::Fails {
+            at,
+            cover,
+            family,
+            found,
+        } => Ok(Answer::NotSheaf {
+            functor: x,
+            at,
+            cover,
+            family,
+            found,
+        }),
+    }
+}
+
 /// Answers a statement, and puts last what it declares. Where it does not answer, what is declared is as before, and of the types that it counts some may be sealed. The
 /// cells of what is declared and counted so far are within the budget, or stop it.
 #[tactic(auto, using(crate::proofs::StatementForms::kind_rules))]
@@ -132,6 +161,7 @@ pub(crate) fn answer(alloc: Global, so: &mut Declarations, stmt: &Stmt) -> Resul
         Stmt::Pushout { .. } => build(alloc, so, stmt),
         Stmt::Image { .. } => build(alloc, so, stmt),
         Stmt::Empty { .. } => build(alloc, so, stmt),
+        Stmt::Sheaf { under, x } => test_sheaf(alloc, so, *under, *x),
         Stmt::Hom { x, y } => list(alloc, so, (*x, *y)),
         Stmt::Show { under, ctx, phi } => show(alloc, so, *under, ctx, phi),
         Stmt::Classify { under, ctx, phi } => classify(alloc, so, *under, ctx, phi),

@@ -1,8 +1,11 @@
-use Rattle.std.proofs.lemmas.Result.{on_err_weaker}
+use Rattle.std.proofs.lemmas.Result.{IfErr-weaker, on_err_weaker}
 use Rattle.topos_session.proofs.LawfulDeclarations.{unchanged_kept}
 use Rattle.std.proofs.Common.{refl, length}
-use Rattle.topos_session.proofs.StatementRanges.{listing_of, map_range, hom_range, formula_range, classified_range, judged_range}
+use Rattle.topos_session.proofs.StatementRanges.{listing_of, map_range, sheaf_range, hom_range, formula_range, classified_range, judged_range}
 use Rattle.topos_session.proofs.StatementAnswers.{refused_other}
+use Rattle.topos_model.specs.declared.stmt.Stmt.TheVariants.{Sheaf}
+use Rattle.topos_session.specs.Declarations.{IsKept}
+use Rattle.topos_session.specs.Statements.{IsStoppedOver}
 use Rattle.topos_session.proofs.answer.answer.Goals as goal
 
 pub declare_presheaf-requires-clause-listing : goal.declare_presheaf-requires-clause-listing
@@ -28,6 +31,11 @@ declare_map-requires-clause-listing c =
     let m = c.in-Map in
     (map_range c.args.so.now.world.site.category (length so.world.functors) (length so.maps) c.args.stmt.now m.map m.dom m.cod m.raw m.is c.requires.range).listing
 
+pub test_sheaf-requires-clause-range : goal.test_sheaf-requires-clause-range
+test_sheaf-requires-clause-range c =
+    let so = c.args.so.now in
+    sheaf_range c.args.so.now.world.site.category (length so.world.functors) (length so.maps) c.args.stmt.now c.in-Sheaf.under c.in-Sheaf.x c.in-Sheaf.is c.requires.range
+
 pub list-requires-clause-domain : goal.list-requires-clause-domain
 list-requires-clause-domain c =
     let so = c.args.so.now in
@@ -39,7 +47,7 @@ list-requires-clause-codomain c =
     (hom_range c.args.so.now.world.site.category (length so.world.functors) (length so.maps) c.args.stmt.now c.in-Hom.x c.in-Hom.y c.in-Hom.is c.requires.range).1
 
 pub returns-in_default-clause-stop : goal.returns-in_default-clause-stop
-returns-in_default-clause-stop c = refused_other c.args.so.now.world.site.category c.args.so.now c.args.stmt.now c.in_default.not-Presheaf c.in_default.not-Map c.in_default.not-Product c.in_default.not-Coproduct c.in_default.not-Equalizer c.in_default.not-Coequalizer c.in_default.not-Pullback c.in_default.not-Pushout c.in_default.not-Image c.in_default.not-Empty c.in_default.not-Hom c.in_default.not-Show c.in_default.not-Classify c.in_default.not-Valid
+returns-in_default-clause-stop c = refused_other c.args.so.now.world.site.category c.args.so.now c.args.stmt.now c.in_default.not-Presheaf c.in_default.not-Map c.in_default.not-Product c.in_default.not-Coproduct c.in_default.not-Equalizer c.in_default.not-Coequalizer c.in_default.not-Pullback c.in_default.not-Pushout c.in_default.not-Image c.in_default.not-Empty c.in_default.not-Sheaf c.in_default.not-Hom c.in_default.not-Show c.in_default.not-Classify c.in_default.not-Valid
 
 pub returns-in-Presheaf-clause-unchanged : goal.returns-in-Presheaf-clause-unchanged
 returns-in-Presheaf-clause-unchanged c = on_err_weaker c.declare_presheaf.result (unchanged_kept c.args.so.now c.declare_presheaf.new.so) c.declare_presheaf.ensures.unchanged
@@ -70,6 +78,9 @@ returns-in-Image-clause-unchanged c = on_err_weaker c.build-in-Image.result (unc
 
 pub returns-in-Empty-clause-unchanged : goal.returns-in-Empty-clause-unchanged
 returns-in-Empty-clause-unchanged c = on_err_weaker c.build-in-Empty.result (unchanged_kept c.args.so.now c.build-in-Empty.new.so) c.build-in-Empty.ensures.unchanged
+
+pub returns-in-Sheaf-clause-unchanged : goal.returns-in-Sheaf-clause-unchanged
+returns-in-Sheaf-clause-unchanged c = IfErr-weaker c.test_sheaf.result (IsStoppedOver c.args.so.now.world.site.category c.args.so.now (Sheaf c.in-Sheaf.under c.in-Sheaf.x)) (λ s. IsKept c.args.so.now c.args.so.now) (λ s h. unchanged_kept c.args.so.now c.args.so.now refl) c.test_sheaf.ensures.stop
 
 pub returns-in-Hom-clause-unchanged : goal.returns-in-Hom-clause-unchanged
 returns-in-Hom-clause-unchanged c = on_err_weaker c.list.result (unchanged_kept c.args.so.now c.list.new.so) c.list.ensures.unchanged
