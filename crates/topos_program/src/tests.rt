@@ -1,6 +1,7 @@
 // Whole runs, over a source and a sink in memory.
 ghost use Rattle.std.specs.Prelude.{◌<◌};
 
+mod covers;
 mod formulas;
 mod texts;
 

@@ -117,7 +117,7 @@ const UNBUILT: [(&str, &str); 11] = [
     ),
     (
         "object U; topology dense; let m = p : Omega . p; local m;",
-        "refused 11 not built\n",
+        "3 refused 11 not built\n",
     ),
     (
         "object V, E; arrow s, t : V -> E; category D { object d; }; functor F : D { at d : V; }; presheaf P of D { at d : p, q; }; lan F P as L with e; ran F P as R with k;",
