@@ -1,5 +1,5 @@
 -- Worked examples, by computation: texts that are made, and what is written of their runs.
-use Rattle.std.specs.Prelude.{◌≡◌, ℕ, ◌++◌, List, [], ◌∷◌, length, codes, refl}
+use Rattle.std.specs.Prelude.{◌≡◌, length, codes, refl}
 use Rattle.std.specs.Fmt.{digits}
 use Rattle.topos_program.specs.Generated.{vertex, edge, source, target, listing, generate, count_lines, last_line, made_text}
 

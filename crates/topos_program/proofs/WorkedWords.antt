@@ -1,5 +1,5 @@
 -- Worked examples, by computation: words that are accepted, and words that are not.
-use Rattle.std.specs.Prelude.{◌≡◌, ℕ, List, [], ◌∷◌, map, codes, Some, None, refl}
+use Rattle.std.specs.Prelude.{◌≡◌, [], ◌∷◌, codes, Some, None, refl}
 use Rattle.topos_program.specs.declared.words.Mode.TheVariants.{Run, Check, Make}
 use Rattle.topos_program.specs.CommandLine.{number_within, budget_said, size_said, behind, mode_said, one_word, two_words, given, accepted}
 

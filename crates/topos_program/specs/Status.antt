@@ -1,5 +1,5 @@
 -- The statuses that a run ends with.
-use Rattle.std.specs.Prelude.{◌≡◌, ℕ, Bool, true, cond, List}
+use Rattle.std.specs.Prelude.{ℕ, Bool, true, cond, List}
 use Rattle.std.specs.List.{list_all}
 use Rattle.topos_model.specs.declared.answer.Answer.{Answer}
 use Rattle.topos_model.specs.declared.answer.Answer.TheVariants.{Verdict}
