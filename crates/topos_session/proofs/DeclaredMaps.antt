@@ -102,7 +102,7 @@ next_types doc so i stmt objects ends n l next range built =
         take_more doc.stmts i stmt (slice_get_within doc.stmts i stmt next)
         ∙ ap (λ (s : Stmt). take i doc.stmts ++ s ∷ []) (get_or_from_slice_get doc.stmts i stmt stmt next)
 
--- statements of a document whose maximal sieves alone cover, over what is declared, with the types that are counted
+-- the statements of a document over what is declared, with the types that are counted
 module _ (doc : Doc) (so : Declarations) (types : List (ℕ × List Ty)) where
   abbrev k : Category
   k = filled_category doc.cat
