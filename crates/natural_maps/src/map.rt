@@ -77,6 +77,13 @@ impl NatMap {
         self.rows.as_slice()
     }
 
+    /// The components, given away.
+    pub fn into_rows(self) -> Row<Row<u32>>
+        ensures { result ≡ self }
+    {
+        self.rows
+    }
+
     /// The component at the object c.
     pub fn row(&self, c: u32) -> &[u32]
         requires { c < length self.now }
