@@ -1,5 +1,6 @@
 // Closure operators.
-ghost use Rattle.std.specs.Prelude.{◌≡◌, length};
+ghost use Rattle.std.specs.Prelude.{◌≡◌, ◌<◌, ℕ, true, false, IsTrue, length, get_or, slice_set};
+ghost use Rattle.closed_sets.specs.Adding.{KeepsBefore, HasNewBefore};
 
 use topos_model::Bits;
 
@@ -21,5 +22,51 @@ pub trait Closing {
         requires { length set.old ≡ places self.now }
         ensures { set.new ≡ closure self.now set.old };
 
+    /// Puts a place into `set`, which is the closed set `last`, and closes it again, or answers false and leaves it as it was where that brings a place before this one.
+    /// It takes no memory.
+    fn add(&self, last: &Bits, place: usize, set: &mut Bits) -> bool
+        requires places { length last.now ≡ places self.now }
+        requires closed { closure self.now last.now ≡ last.now }
+        requires same { set.old ≡ last.now }
+        requires within { place < places self.now }
+        requires new { get_or last.now place false ≡ false }
+        ensures added { IsTrue result → (set.new ≡ closure self.now (slice_set last.now place true)) × KeepsBefore place last.now set.new }
+        ensures refused { result ≡ false → (set.new ≡ last.now) × HasNewBefore place last.now (closure self.now (slice_set last.now place true)) }
+    {
+        set.set(place, true);
+        self.close(set);
+        if keeps(last, set, place) {
+            return true;
+        }
+        restore(last, 0, set);
+        false
+    }
+
     ghost is_closure: { (op : Self) → IsClosure (places op) (closure op) };
+}
+
+// Whether `next` has no place before `end` that `last` has not.
+fn keeps(last: &Bits, next: &Bits, end: usize) -> bool
+    requires last { end < length last.now }
+    requires next { end < length next.now }
+    ensures kept { IsTrue result → KeepsBefore end last.now next.now }
+    ensures new { result ≡ false → HasNewBefore end last.now next.now }
+{
+    for k in 0..end {
+        if next.get(k) && !last.get(k) {
+            return false;
+        }
+    }
+    true
+}
+
+/// Leaves `set`, which is as `last` before the place `from`, as `last`.
+pub(crate) fn restore(last: &Bits, from: usize, set: &mut Bits)
+    requires places { length set.old ≡ length last.now }
+    requires before { (k : ℕ) → k < from → get_or set.old k false ≡ get_or last.now k false }
+    ensures { set.new ≡ last.now }
+{
+    'places: for k in from..last.len() {
+        set.set(k, last.get(k));
+    }
 }
