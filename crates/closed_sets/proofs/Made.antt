@@ -1,14 +1,16 @@
 -- A closed set with one place more, where its places before that span it.
-use Rattle.std.proofs.Common.{◌≡◌, ℕ, zero, suc, ◌+◌, ◌-◌, ◌<◌, ◌≤◌, Bool, true, false, List, [], ◌∷◌, ◌++◌, length, get_or, set, take, replicate, refl, sym, ap, subst, ◌∙◌, arith, append_assoc, length-append, ◌⊎◌, inl, inr}
+use Rattle.std.proofs.Common.{◌≡◌, ℕ, zero, suc, ◌+◌, ◌-◌, ◌<◌, ◌≤◌, Bool, true, false, List, [], ◌∷◌, ◌++◌, length, get_or, set, take, drop, replicate, refl, sym, ap, subst, ◌∙◌, arith, append_assoc, length-append, ◌⊎◌, inl, inr}
 use Rattle.std.proofs.lemmas.Bool.{false≢true, cases_Bool, cases_eq, cases_order}
-use Rattle.std.proofs.lemmas.List.{same_lists, get_or_default, get_or_append_left, get_or_push, get_or-take, get_or-set_same, get_or-set_other, length_push, length-replicate, length-set, length-take-le}
+use Rattle.std.proofs.lemmas.List.{append-nil, take_all, same_lists, get_or_default, get_or_append_left, get_or_push, get_or-take, get_or-replicate, get_or-set_same, get_or-set_other, length_push, length-replicate, length-set, length-take-le}
+use Rattle.std.proofs.Math.ListN.{drop_of_length-le}
 use Rattle.closed_sets.specs.declared.list.Origin.{Origin}
+use Rattle.closed_sets.specs.declared.list.Refusal.{Refusal}
 use Rattle.closed_sets.specs.Closed.{IsBelow, IsClosure}
 use Rattle.closed_sets.specs.Later.{blocks, later, candidate}
-use Rattle.closed_sets.specs.Adding.{KeepsBefore, HasNewBefore}
-use Rattle.closed_sets.specs.Origins.{set_at, origin_at, IsMade, AreMade}
+use Rattle.closed_sets.specs.Adding.{KeepsBefore, IsNewBefore}
+use Rattle.closed_sets.specs.Origins.{set_at, origin_at, refusal_at, IsMade, AreMade, Leads, IsPath, AreRefused}
 use Rattle.closed_sets.proofs.Bits.{same_value, same_places}
-use Rattle.closed_sets.proofs.Next.{place_of, length-candidate, step_good, step_bad, step_there, blocks_same}
+use Rattle.closed_sets.proofs.Next.{place_of, in_list, length-candidate, step_good, step_bad, step_there, blocks_same}
 
 -- a place of p and m that are false is one of p
 front_of : (p : List Bool) (m k : ℕ) → get_or (p ++ replicate m false) k false ≡ true → (k < length p) × (get_or p k false ≡ true)
@@ -130,10 +132,10 @@ module _ (n : ℕ) (closure : List Bool → List Bool) (laws : IsClosure n closu
     candidate_of = ap (λ x. candidate x a (place - 1)) (sym m.places)
 
     -- a place that is not put in
-    pub step_refused : get_or a (place - 1) false ≡ false → HasNewBefore (place - 1) a (closure (set a (place - 1) true)) → blocks n closure a place ≡ blocks n closure a (place - 1)
-    step_refused out new =
+    pub step_refused : (k : ℕ) → get_or a (place - 1) false ≡ false → IsNewBefore (place - 1) a (closure (set a (place - 1) true)) k → blocks n closure a place ≡ blocks n closure a (place - 1)
+    step_refused k out new =
         step_bad n closure laws a (candidate n a (place - 1)) (closure (candidate n a (place - 1))) place m.places some within candidate_of refl
-        (new.0, new.1, new.2, ap (λ t. get_or t new.0 false) (candidate_closure out) ∙ new.3)
+        (k, new.0, new.1, ap (λ t. get_or t k false) (candidate_closure out) ∙ new.2)
 
     -- and one that is
     pub step_added : (c : List Bool) → get_or a (place - 1) false ≡ false → c ≡ closure (set a (place - 1) true) → KeepsBefore (place - 1) a c → blocks n closure a place ≡ c ∷ later n closure c
@@ -158,6 +160,7 @@ module _ (n : ℕ) (closure : List Bool → List Bool) (laws : IsClosure n closu
           known = λ _. known;
           lower = λ _. (let b = limit_below out in let e : (origin_at origins i).limit ≡ o.limit = ap (λ (x : Origin). x.limit) (sym from) in omega (arith, b, e));
           put = λ j e. ap (λ x. get_or c x false) (let s : j ≡ place - 1 = omega (arith, e) in s) ∙ there;
+          above = λ _ k h. up k (set_keeps a (place - 1) k low (ap (λ t. get_or t k false) at ∙ h));
           alike = λ j k e l. agree k (omega (arith, e, l)) ∙ ap (λ t. get_or t k false) at;
         }
 
@@ -196,6 +199,7 @@ module _ (n : ℕ) (closure : List Bool → List Bool) (laws : IsClosure n closu
         let r : origin_at (origins ++ p ∷ []) o.before ≡ origin_at origins o.before = get_or_append_left origins (p ∷ []) (record { limit = 0; before = 0 }) o.before (omega (arith, k, e)) in
         subst (λ (x : Origin). x.limit < o.limit) (sym r) (m.lower l);
     put = m.put;
+    above = λ l k h. let w = m.known l in m.above l k (ap (λ t. get_or t k false) (sym (get_or_append_left sets (b ∷ []) [] o.before w)) ∙ h);
     alike = λ j k q l.
         let w = m.known (omega (arith, q)) in
         m.alike j k q l ∙ ap (λ t. get_or t k false) (sym (get_or_append_left sets (b ∷ []) [] o.before w));
@@ -224,6 +228,7 @@ module _ (n : ℕ) (closure : List Bool → List Bool) (laws : IsClosure n closu
     known = λ l. absurd (omega (arith, l));
     lower = λ l. absurd (omega (arith, l));
     put = λ j e. absurd (omega (arith, e));
+    above = λ l. absurd (omega (arith, l));
     alike = λ j k e l. absurd (omega (arith, e));
   }
 
@@ -237,3 +242,99 @@ module _ (n : ℕ) (closure : List Bool → List Bool) (laws : IsClosure n closu
       AreMade n closure sets' origins'
   more_made sets sets' origins origins' a o is is' e all m =
       subst (λ s. AreMade n closure s origins') (sym is) (subst (λ r. AreMade n closure (sets ++ a ∷ []) r) (sym is') (all_made sets origins a o e all m))
+
+  -- the sets from which a set was made are within it
+  pub leads_below : (sets : List (List Bool)) (origins : List Origin) (m q i : ℕ) → AreMade n closure sets origins → i < length sets → Leads origins m q i → IsBelow (set_at sets q) (set_at sets i)
+  leads_below sets origins zero q i all low e k h = ap (λ x. get_or (set_at sets x) k false) (sym e) ∙ h
+  leads_below sets origins (suc m) q i all low (some, rest) k h =
+      let o = all i low in
+      o.above some k (leads_below sets origins m q (origin_at origins i).before all (o.known some) rest k h)
+
+  leads_more : (sets : List (List Bool)) (origins : List Origin) (p : Origin) (m q i : ℕ) → length origins ≡ length sets → AreMade n closure sets origins → i < length sets → Leads origins m q i → Leads (origins ++ p ∷ []) m q i
+  leads_more sets origins p zero q i e all low h = h
+  leads_more sets origins p (suc m) q i e all low (some, rest) =
+      let r : origin_at (origins ++ p ∷ []) i ≡ origin_at origins i = get_or_append_left origins (p ∷ []) (record { limit = 0; before = 0 }) i (omega (arith, low, e)) in
+      (subst (λ (x : Origin). 0 < x.limit) (sym r) some,
+      subst (λ (x : Origin). Leads (origins ++ p ∷ []) m q x.before) (sym r) (leads_more sets origins p m q (origin_at origins i).before e all ((all i low).known some) rest))
+
+  -- one set more, which is active
+  pub path_more : (sets : List (List Bool)) (origins origins' : List Origin) (active active' : List Bool) (a : List Bool) (o : Origin) → origins' ≡ origins ++ o ∷ [] → active' ≡ active ++ true ∷ [] → length origins ≡ length sets → length active ≡ length sets →
+      AreMade n closure sets origins → IsMade n closure sets origins a o → ((q : ℕ) → get_or active q false ≡ true → (0 < o.limit) × ((m : ℕ) × Leads origins m q o.before)) → IsPath origins' active' (length sets)
+  path_more sets origins origins' active active' a o is is' e f all m path =
+      subst (λ r. IsPath r active' (length sets)) (sym is) (subst (λ r. IsPath (origins ++ o ∷ []) r (length sets)) (sym is') (λ q h.
+      elim (cases_eq q (length sets)) [
+        | inl s ↦ (0, s)
+        | inr s ↦
+            let z : length (active ++ true ∷ []) ≡ length active + 1 = length_push active true in
+            let low : q < length active = (let l = in_list (active ++ true ∷ []) q h in omega (arith, l, z, f, s)) in
+            let (some, steps) = path q (sym (get_or_append_left active (true ∷ []) false q low) ∙ h) in
+            let r : origin_at (origins ++ o ∷ []) (length sets) ≡ o = get_or_push origins o (record { limit = 0; before = 0 }) (length sets) e in
+            (suc steps.0,
+            (subst (λ (x : Origin). 0 < x.limit) (sym r) some,
+            subst (λ (x : Origin). Leads (origins ++ o ∷ []) steps.0 q x.before) (sym r) (leads_more sets origins o steps.0 q o.before e all (m.known some) steps.1)))
+      ]))
+
+  -- a set that is left
+  pub path_left : (origins : List Origin) (active active' : List Bool) (i : ℕ) → i < length active → active' ≡ set active i false → IsPath origins active i → IsPath origins active' (origin_at origins i).before
+  path_left origins active active' i low is path q h =
+      elim (cases_eq q i) [
+        | inl e ↦ absurd (false≢true (sym (get_or-set_same active i false false low) ∙ ap (λ x. get_or (set active i false) x false) (sym e) ∙ ap (λ t. get_or t q false) (sym is) ∙ h))
+        | inr ne ↦ one_back origins q i ne (path q (sym (get_or-set_other active i q false false ne) ∙ ap (λ t. get_or t q false) (sym is) ∙ h))
+      ]
+    where
+      one_back : (origins : List Origin) (q i : ℕ) → (q ≡ i → ⊥) → ((m : ℕ) × Leads origins m q i) → (m : ℕ) × Leads origins m q (origin_at origins i).before
+      one_back origins q i ne (zero, e) = absurd (ne e)
+      one_back origins q i ne (suc m, (some, rest)) = (m, rest)
+
+  pub refused_more : (sets sets' : List (List Bool)) (refusals : List Refusal) (a : List Bool) → sets' ≡ sets ++ a ∷ [] → AreRefused closure sets refusals → AreRefused closure sets' refusals
+  refused_more sets sets' refusals a is all =
+      subst (λ s. AreRefused closure s refusals) (sym is) (λ j low early.
+      let (known, brought) = all j low early in
+      let z : length (sets ++ a ∷ []) ≡ length sets + 1 = length_push sets a in
+      (omega (arith, known, z),
+      ap (λ t. get_or (closure (set t j true)) (refusal_at refusals j).new false) (get_or_append_left sets (a ∷ []) [] (refusal_at refusals j).at known) ∙ brought))
+
+  pub refused_set : (sets : List (List Bool)) (refusals refusals' : List Refusal) (j i k : ℕ) → j < length refusals → i < length sets → refusals' ≡ set refusals j (record { at = i; new = k }) → get_or (closure (set (set_at sets i) j true)) k false ≡ true →
+      AreRefused closure sets refusals → AreRefused closure sets refusals'
+  refused_set sets refusals refusals' j i k low known is brought all =
+      subst (λ r. AreRefused closure sets r) (sym is) (λ l low' early.
+      elim (cases_eq l j) [
+        | inl e ↦
+            let r : refusal_at (set refusals j (record { at = i; new = k })) l ≡ record { at = i; new = k } =
+            ap (λ x. refusal_at (set refusals j (record { at = i; new = k })) x) e ∙ get_or-set_same refusals j (record { at = i; new = k }) (record { at = 0; new = 0 }) low in
+            subst (λ (x : Refusal). (x.at < length sets) × (get_or (closure (set (set_at sets x.at) l true)) x.new false ≡ true)) (sym r) (known, ap (λ x. get_or (closure (set (set_at sets i) x true)) k false) e ∙ brought)
+        | inr ne ↦
+            let r : refusal_at (set refusals j (record { at = i; new = k })) l ≡ refusal_at refusals l = get_or-set_other refusals j l (record { at = i; new = k }) (record { at = 0; new = 0 }) ne in
+            subst (λ (x : Refusal). (x.at < length sets) × (get_or (closure (set (set_at sets x.at) l true)) x.new false ≡ true)) (sym r)
+            (all l (let z : length (set refusals j (record { at = i; new = k })) ≡ length refusals = length-set refusals j (record { at = i; new = k }) in omega (arith, low', z)) (subst (λ (x : Refusal). x.new < l) r early))
+      ])
+
+  -- what was brought before is brought again
+  pub refused_again : (sets : List (List Bool)) (origins : List Origin) (active : List Bool) (refusals : List Refusal) (i j : ℕ) (a : List Bool) → AreMade n closure sets origins → i < length sets → a ≡ set_at sets i → IsPath origins active i → AreRefused closure sets refusals → j < length refusals → j < n →
+      (refusal_at refusals j).new < j → get_or active (refusal_at refusals j).at false ≡ true → get_or a (refusal_at refusals j).new false ≡ false → IsNewBefore j a (closure (set a j true)) (refusal_at refusals j).new
+  refused_again sets origins active refusals i j a all low is path refused lj jn early on out =
+      let (known, brought) = refused j lj early in
+      let (m, leads) = path (refusal_at refusals j).at on in
+      let b = set_at sets (refusal_at refusals j).at in
+      let bn = (all (refusal_at refusals j).at known).places in
+      let an : length a ≡ n = ap length is ∙ (all i low).places in
+      let le : IsBelow (set_at sets (refusal_at refusals j).at) a = λ k h. ap (λ t. get_or t k false) is ∙ leads_below sets origins m (refusal_at refusals j).at i all low leads k h in
+      let le' : IsBelow (set (set_at sets (refusal_at refusals j).at) j true) (set a j true) = λ k h.
+      elim (set_place b j k h) [
+        | inl e ↦ ap (λ x. get_or (set a j true) x false) e ∙ get_or-set_same a j true false (omega (arith, jn, an))
+        | inr g ↦ set_keeps a j k (omega (arith, jn, an)) (le k g)
+      ] in
+      (early, out, laws.monotone (set b j true) (set a j true) (length-set b j true ∙ bn) (length-set a j true ∙ an) le' (refusal_at refusals j).new brought)
+
+  pub none_refused : (sets : List (List Bool)) (refusals : List Refusal) (p : ℕ) → refusals ≡ replicate p (record { at = 0; new = p }) → AreRefused closure sets refusals
+  none_refused sets refusals p is j low early =
+      let e : length refusals ≡ p = ap length is ∙ length-replicate p (record { at = 0; new = p }) in
+      let l : j < p = omega (arith, low, e) in
+      let r : refusal_at refusals j ≡ record { at = 0; new = p } = ap (λ rs. refusal_at rs j) is ∙ get_or-replicate p j (record { at = 0; new = p }) (record { at = 0; new = 0 }) l in
+      absurd (let h : p < j = subst (λ (x : Refusal). x.new < j) r early in omega (arith, h, l))
+
+-- a row that was lent whole
+pub lent_back : {A : Type 0} (xs ys : List A) (n : ℕ) → length xs ≡ n → length ys ≡ n → take n (xs ++ drop (length xs) ys) ≡ xs
+lent_back xs ys n e f =
+    let d : drop (length xs) ys ≡ [] = drop_of_length-le ys (omega (arith, e, f)) in
+    ap (λ t. take n (xs ++ t)) d ∙ ap (take n) (append-nil xs) ∙ take_all n xs (omega (arith, e))
