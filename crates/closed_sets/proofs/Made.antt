@@ -1,6 +1,6 @@
 -- A closed set with one place more, where its places before that span it.
 use Rattle.std.proofs.Common.{◌≡◌, ℕ, zero, suc, ◌+◌, ◌-◌, ◌<◌, ◌≤◌, Bool, true, false, List, [], ◌∷◌, ◌++◌, length, get_or, set, take, drop, replicate, refl, sym, ap, subst, ◌∙◌, arith, append_assoc, length-append, ◌⊎◌, inl, inr}
-use Rattle.std.proofs.lemmas.Bool.{false≢true, cases_Bool, cases_eq, cases_order}
+use Rattle.std.proofs.lemmas.Bool.{false≢true, cases_eq}
 use Rattle.std.proofs.lemmas.List.{append-nil, take_all, same_lists, get_or_default, get_or_append_left, get_or_push, get_or-take, get_or-replicate, get_or-set_same, get_or-set_other, length_push, length-replicate, length-set, length-take-le}
 use Rattle.std.proofs.Math.ListN.{drop_of_length-le}
 use Rattle.closed_sets.specs.declared.list.Origin.{Origin}
@@ -253,9 +253,10 @@ module _ (n : ℕ) (closure : List Bool → List Bool) (laws : IsClosure n closu
   leads_more : (sets : List (List Bool)) (origins : List Origin) (p : Origin) (m q i : ℕ) → length origins ≡ length sets → AreMade n closure sets origins → i < length sets → Leads origins m q i → Leads (origins ++ p ∷ []) m q i
   leads_more sets origins p zero q i e all low h = h
   leads_more sets origins p (suc m) q i e all low (some, rest) =
-      let r : origin_at (origins ++ p ∷ []) i ≡ origin_at origins i = get_or_append_left origins (p ∷ []) (record { limit = 0; before = 0 }) i (omega (arith, low, e)) in
-      (subst (λ (x : Origin). 0 < x.limit) (sym r) some,
-      subst (λ (x : Origin). Leads (origins ++ p ∷ []) m q x.before) (sym r) (leads_more sets origins p m q (origin_at origins i).before e all ((all i low).known some) rest))
+      let r : origin_at (origins ++ p ∷ []) i ≡ origin_at origins i = get_or_append_left origins (p ∷ []) (record { limit = 0; before = 0 }) i (omega (arith, low, e)) in (
+        subst (λ (x : Origin). 0 < x.limit) (sym r) some,
+        subst (λ (x : Origin). Leads (origins ++ p ∷ []) m q x.before) (sym r) (leads_more sets origins p m q (origin_at origins i).before e all ((all i low).known some) rest),
+      )
 
   -- one set more, which is active
   pub path_more : (sets : List (List Bool)) (origins origins' : List Origin) (active active' : List Bool) (a : List Bool) (o : Origin) → origins' ≡ origins ++ o ∷ [] → active' ≡ active ++ true ∷ [] → length origins ≡ length sets → length active ≡ length sets →
@@ -268,10 +269,13 @@ module _ (n : ℕ) (closure : List Bool → List Bool) (laws : IsClosure n closu
             let z : length (active ++ true ∷ []) ≡ length active + 1 = length_push active true in
             let low : q < length active = (let l = in_list (active ++ true ∷ []) q h in omega (arith, l, z, f, s)) in
             let (some, steps) = path q (sym (get_or_append_left active (true ∷ []) false q low) ∙ h) in
-            let r : origin_at (origins ++ o ∷ []) (length sets) ≡ o = get_or_push origins o (record { limit = 0; before = 0 }) (length sets) e in
-            (suc steps.0,
-            (subst (λ (x : Origin). 0 < x.limit) (sym r) some,
-            subst (λ (x : Origin). Leads (origins ++ o ∷ []) steps.0 q x.before) (sym r) (leads_more sets origins o steps.0 q o.before e all (m.known some) steps.1)))
+            let r : origin_at (origins ++ o ∷ []) (length sets) ≡ o = get_or_push origins o (record { limit = 0; before = 0 }) (length sets) e in (
+              suc steps.0,
+              (
+                subst (λ (x : Origin). 0 < x.limit) (sym r) some,
+                subst (λ (x : Origin). Leads (origins ++ o ∷ []) steps.0 q x.before) (sym r) (leads_more sets origins o steps.0 q o.before e all (m.known some) steps.1),
+              ),
+            )
       ]))
 
   -- a set that is left
@@ -290,9 +294,10 @@ module _ (n : ℕ) (closure : List Bool → List Bool) (laws : IsClosure n closu
   refused_more sets sets' refusals a is all =
       subst (λ s. AreRefused closure s refusals) (sym is) (λ j low early.
       let (known, brought) = all j low early in
-      let z : length (sets ++ a ∷ []) ≡ length sets + 1 = length_push sets a in
-      (omega (arith, known, z),
-      ap (λ t. get_or (closure (set t j true)) (refusal_at refusals j).new false) (get_or_append_left sets (a ∷ []) [] (refusal_at refusals j).at known) ∙ brought))
+      let z : length (sets ++ a ∷ []) ≡ length sets + 1 = length_push sets a in (
+        omega (arith, known, z),
+        ap (λ t. get_or (closure (set t j true)) (refusal_at refusals j).new false) (get_or_append_left sets (a ∷ []) [] (refusal_at refusals j).at known) ∙ brought,
+      ))
 
   pub refused_set : (sets : List (List Bool)) (refusals refusals' : List Refusal) (j i k : ℕ) → j < length refusals → i < length sets → refusals' ≡ set refusals j (record { at = i; new = k }) → get_or (closure (set (set_at sets i) j true)) k false ≡ true →
       AreRefused closure sets refusals → AreRefused closure sets refusals'

@@ -119,7 +119,7 @@ fn next_closed<O: Closing>(
     ensures found { MatchOption result
         (later (O.places op.now) (O.closure op.now) set.old ≡ [])
         (λ origin. (later (O.places op.now) (O.closure op.now) set.old ≡ set.new ∷ later (O.places op.now) (O.closure op.now) set.new) × IsMade (O.places op.now) (O.closure op.now) found.now origins.now set.new origin
-            × (0 < origin.limit) × IsPath origins.now active.new origin.before) }
+        × (0 < origin.limit) × IsPath origins.now active.new origin.before) }
 {
     let mut number = found.len() - 1;
     let mut place = op.len();

@@ -11,9 +11,9 @@ use Rattle.topos_model.specs.categories.Category.{has}
 use Rattle.fin_category.proofs.ArrowLists.{has-In, In-has}
 use Rattle.closed_sets.specs.Closed.{IsBelow}
 use Rattle.closed_sets.specs.Ideals.{lowered}
-use Rattle.closed_sets.specs.IdealLaws.{in_list, length-lowered}
-use Rattle.closed_sets.specs.Adding.{KeepsBefore, HasNewBefore}
-use Rattle.place_closures.specs.Passes.{moves, covered, two_passes, Has, AreTables, HasCover, HasEarly, IsRestrictionClosed, IsCoverClosed}
+use Rattle.closed_sets.specs.IdealLaws.{length-lowered}
+use Rattle.closed_sets.specs.Adding.{KeepsBefore, IsNewBefore}
+use Rattle.place_closures.specs.Passes.{moves, covered, two_passes, Has, AreTables, HasCover, IsMissing, IsRestrictionClosed, IsCoverClosed}
 use Rattle.place_closures.specs.PassLaws.{same_places, length-covered, In-covered, In-covered_from, In-restricted, In-restricted_from, restricted_extends, restricted_moves, covered_extends, passes_move, passes_cover}
 
 -- each member of a row is one of what is left, or has been met
@@ -102,10 +102,10 @@ module _ (below covers : List (List ℕ)) (laws : AreTables below covers) (last 
       In-restricted below covers laws more place j (omega (arith, w, length-more)) (get_or-set_same last place true false here_low) (or_right (eqb j place) (has j (get_or below place [])) h)
 
   -- a place that it moves to, before it
-  pub moves_early : (j : ℕ) → Has below place j → j < place → get_or last j false ≡ false → HasNewBefore place last (two_passes below covers more)
+  pub moves_early : (j : ℕ) → Has below place j → j < place → get_or last j false ≡ false → IsNewBefore place last (two_passes below covers more) j
   unfolding two_passes
   moves_early j h early off =
-      (j, early, off, covered_extends below covers laws (lowered (moves below) more) (restricted_moves below covers laws more length-more) j (reached j h))
+      (early, off, covered_extends below covers laws (lowered (moves below) more) (restricted_moves below covers laws more length-more) j (reached j h))
 
   module _ (b : List Bool) (row : List ℕ) (at : row ≡ get_or below place []) (bn : length b ≡ length below) (reads : (j : ℕ) → get_or b j false ≡ (get_or more j false || has j row)) where
     moved_row : (j : ℕ) → has j row ≡ true → Has below place j
@@ -137,10 +137,12 @@ module _ (below covers : List (List ℕ)) (laws : AreTables below covers) (last 
     closure_is = ap (covered covers) (sym b_is)
 
     -- a place before it whose cover is whole
-    pub covers_early : HasEarly covers b place → HasNewBefore place last (two_passes below covers more)
-    covers_early (k, early, off, each) =
-        (k, early, elim (cases_Bool (get_or last k false)) [ inl on ↦ absurd (false≢true (sym off ∙ last_in k on)) | inr absent ↦ absent ],
-        ap (λ t. get_or t k false) closure_is ∙ In-covered covers b k (omega (arith, early, low, bn)) each)
+    pub covers_early : (k : ℕ) → IsMissing covers b place k → IsNewBefore place last (two_passes below covers more) k
+    covers_early k (early, off, each) = (
+      early,
+      elim (cases_Bool (get_or last k false)) [ inl on ↦ absurd (false≢true (sym off ∙ last_in k on)) | inr absent ↦ absent ],
+      ap (λ t. get_or t k false) closure_is ∙ In-covered covers b k (omega (arith, early, low, bn)) each,
+    )
 
     new_cover : (k : ℕ) → k < length below → get_or last k false ≡ false → HasCover covers b k → (m : ℕ) × Has below place m × (get_or last m false ≡ false) × Has covers k m
     new_cover k within off each =
@@ -148,14 +150,18 @@ module _ (below covers : List (List ℕ)) (laws : AreTables below covers) (last 
           | inl all ↦ absurd (false≢true (sym off ∙ covers_in k (omega (arith, within, count)) (λ l h. all_each (λ l. get_or last l false) (get_or covers k []) l all (In-has _ l h))))
           | inr not_all ↦
               let (l, m, absent) = some_out (λ l. get_or last l false) (get_or covers k []) not_all in
-              let h : Has covers k l = has-In _ l m in
-              (l, elim (or_cases (get_or more l false) (has l row) (sym (reads l) ∙ each l h)) [
-                | inl g ↦ elim (set_place last place l g) [
-                  | inl e ↦ subst (λ x. Has below place x) (sym e) (laws.itself place low)
-                  | inr on ↦ absurd (false≢true (sym absent ∙ on))
-                ]
-                | inr g ↦ moved_row l g
-              ], absent, h)
+              let h : Has covers k l = has-In _ l m in (
+                l,
+                elim (or_cases (get_or more l false) (has l row) (sym (reads l) ∙ each l h)) [
+                  | inl g ↦ elim (set_place last place l g) [
+                    | inl e ↦ subst (λ x. Has below place x) (sym e) (laws.itself place low)
+                    | inr on ↦ absurd (false≢true (sym absent ∙ on))
+                  ]
+                  | inr g ↦ moved_row l g
+                ],
+                absent,
+                h,
+              )
         ]
 
     -- the set with all such places is the closure

@@ -42,9 +42,9 @@ IsCoverClosed covers a = (i : ℕ) → i < length a → ((j : ℕ) → Has cover
 abbrev pub HasCover : List (List ℕ) → List Bool → ℕ → Type 0
 HasCover covers a k = (l : ℕ) → Has covers k l → get_or a l false ≡ true
 
--- a place before the end that the set has not, though it has its cover
-abbrev pub HasEarly : List (List ℕ) → List Bool → ℕ → Type 0
-HasEarly covers a end = (k : ℕ) × (k < end) × (get_or a k false ≡ false) × HasCover covers a k
+-- k is before the end, and the set has it not, though it has its cover
+abbrev pub IsMissing : List (List ℕ) → List Bool → ℕ → ℕ → Type 0
+IsMissing covers a end k = (k < end) × (get_or a k false ≡ false) × HasCover covers a k
 
 -- for each place those whose row has it
 pub record AreTurned (rows turned : List (List ℕ)) : Type 0 where

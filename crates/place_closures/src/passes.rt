@@ -1,10 +1,10 @@
 // Closing a set of places in two passes, and adding a place to a closed one.
-ghost use Rattle.std.specs.Prelude.{◌≡◌, ◌<◌, ◌||◌, ◌^◌, ℕ, Bool, List, [], length, get_or, true, false, IsTrue, IfOk};
+ghost use Rattle.std.specs.Prelude.{◌≡◌, ◌<◌, ◌||◌, ◌^◌, ℕ, Bool, List, [], length, get_or, true, false, IsTrue, IfOk, MatchOption};
 ghost use Rattle.std.specs.List.{list_all};
 ghost use Rattle.topos_model.specs.categories.Category.{has};
 ghost use Rattle.closed_sets.specs.Closed.{IsBelow};
 ghost use Rattle.closed_sets.specs.Ideals.{lowered};
-ghost use Rattle.place_closures.specs.Passes.{AreTables, AreTurned, Has, HasCover, HasEarly, IsCoverClosed, IsRestrictionClosed, moves, covered, two_passes};
+ghost use Rattle.place_closures.specs.Passes.{AreTables, AreTurned, Has, HasCover, IsMissing, IsCoverClosed, IsRestrictionClosed, moves, covered, two_passes};
 
 use crate::turned::turned;
 use closed_sets::Closing;
@@ -78,37 +78,41 @@ impl TwoPasses {
         !set.get(k) && has_all(set, self.covers.get(k).as_slice())
     }
 
-    // Whether some place before `end` whose cover has m is missing.
-    fn misses_early(&self, set: &Bits, m: usize, end: usize) -> bool
+    // A missing place before `end` whose cover has m.
+    fn missing_before(&self, set: &Bits, m: usize, end: usize) -> Option<usize>
         requires places { length set.now ≡ length self.now.below }
         requires within { m < length self.now.below }
-        ensures early { IsTrue result → HasEarly self.now.covers set.now end }
-        ensures late { result ≡ false → (k : ℕ) → Has self.now.covers k m → k < end → HasCover self.now.covers set.now k → get_or set.now k false ≡ true }
+        ensures { MatchOption result
+            ((k : ℕ) → Has self.now.covers k m → k < end → HasCover self.now.covers set.now k → get_or set.now k false ≡ true)
+            (λ k. IsMissing self.now.covers set.now end k) }
     {
         for k in self.covering[m].as_slice() {
             let k = *k as usize;
             if k < end && self.is_missing(set, k) {
-                return true;
+                return Some(k);
             }
         }
-        false
+        None
     }
 
-    // Whether some place before `place` is missing whose cover has a place that `place` moves to and `last` has not.
-    fn brings_early(&self, last: &Bits, place: usize, set: &Bits) -> bool
+    // A missing place before `place` whose cover has a place that `place` moves to and `last` has not.
+    fn brought_before(&self, last: &Bits, place: usize, set: &Bits) -> Option<usize>
         requires last { length last.now ≡ length self.now.below }
         requires places { length set.now ≡ length self.now.below }
         requires within { place < length self.now.below }
-        ensures early { IsTrue result → HasEarly self.now.covers set.now place }
-        ensures late { result ≡ false → (m : ℕ) → Has self.now.below place m → get_or last.now m false ≡ false → (k : ℕ) → Has self.now.covers k m → k < place → HasCover self.now.covers set.now k → get_or set.now k false ≡ true }
+        ensures { MatchOption result
+            ((m : ℕ) → Has self.now.below place m → get_or last.now m false ≡ false → (k : ℕ) → Has self.now.covers k m → k < place → HasCover self.now.covers set.now k → get_or set.now k false ≡ true)
+            (λ k. IsMissing self.now.covers set.now place k) }
     {
         for m in self.below.get(place).as_slice() {
             let m = *m as usize;
-            if !last.get(m) && self.misses_early(set, m, place) {
-                return true;
+            if !last.get(m) {
+                if let Some(k) = self.missing_before(set, m, place) {
+                    return Some(k);
+                }
             }
         }
-        false
+        None
     }
 
     // Adds each missing place whose cover has m.
@@ -147,19 +151,20 @@ impl TwoPasses {
     }
 }
 
-// Whether a row has some place before `end` that the set has not.
-fn has_early(set: &Bits, row: &[u32], end: usize) -> bool
+// A place of a row before `end` that the set has not.
+fn absent_before(set: &Bits, row: &[u32], end: usize) -> Option<usize>
     requires { (j : ℕ) → has j row.now ≡ true → j < length set.now }
-    ensures early { IsTrue result → ((j : ℕ) × (has j row.now ≡ true) × (j < end) × (get_or set.now j false ≡ false)) }
-    ensures late { result ≡ false → (j : ℕ) → has j row.now ≡ true → j < end → get_or set.now j false ≡ true }
+    ensures { MatchOption result
+        ((j : ℕ) → has j row.now ≡ true → j < end → get_or set.now j false ≡ true)
+        (λ j. (has j row.now ≡ true) × (j < end) × (get_or set.now j false ≡ false)) }
 {
     for j in row {
         let j = *j as usize;
         if j < end && !set.get(j) {
-            return true;
+            return Some(j);
         }
     }
-    false
+    None
 }
 
 // Takes out of the set, which is `last` but for the places of a row, what `last` has not.
@@ -220,19 +225,19 @@ impl Closing for TwoPasses {
     }
 
     // Only what the place moves to is new in the first pass, and in the second only places whose covers have some of that.
-    fn add(&self, last: &Bits, place: usize, set: &mut Bits) -> bool {
+    fn add(&self, last: &Bits, place: usize, set: &mut Bits) -> Option<usize> {
         let row = self.below.get(place).as_slice();
-        if has_early(last, row, place) {
-            return false;
+        if let Some(j) = absent_before(last, row, place) {
+            return Some(j);
         }
         set.set(place, true);
         mark(set, row);
-        if self.brings_early(last, place, set) {
+        if let Some(k) = self.brought_before(last, place, set) {
             set.set(place, false);
             put_back(last, row, set);
-            return false;
+            return Some(k);
         }
         self.cover_new(last, place, set);
-        true
+        None
     }
 }

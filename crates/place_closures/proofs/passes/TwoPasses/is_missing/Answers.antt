@@ -1,4 +1,4 @@
-use Rattle.std.proofs.Common.{◌≡◌, [], true, false, get_or, sym, ◌∙◌, arith}
+use Rattle.std.proofs.Common.{[], false, get_or, sym, ◌∙◌, arith}
 use Rattle.std.proofs.lemmas.Bool.{false≢true}
 use Rattle.std.proofs.lemmas.Option.{get_or_from_slice_get}
 use Rattle.finite_lists.proofs.Lists.{all_each, each_all}

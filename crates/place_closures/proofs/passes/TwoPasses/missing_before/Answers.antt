@@ -1,9 +1,9 @@
-use Rattle.std.proofs.Common.{◌≡◌, ◌<◌, ℕ, [], true, false, get_or, sym, ◌∙◌, arith}
+use Rattle.std.proofs.Common.{◌≡◌, ◌<◌, ℕ, [], true, false, get_or, ◌∙◌, arith}
 use Rattle.std.proofs.lemmas.List.{get_or_read}
 use Rattle.place_closures.specs.Passes.{HasCover}
 use Rattle.place_closures.proofs.Adding.{row_has, has_row, one_left, left_more, left_none}
-use Rattle.place_closures.proofs.passes.TwoPasses.misses_early.Goals as goal
-use Rattle.place_closures.proofs.passes.TwoPasses.misses_early.Goals.{else-k-end-via-then-k-end+else-is_missing, else-k-end-via-else-k-end}
+use Rattle.place_closures.proofs.passes.TwoPasses.missing_before.Goals as goal
+use Rattle.place_closures.proofs.passes.TwoPasses.missing_before.Goals.{else-k-end-via-then-k-end+else-is_missing, else-k-end-via-else-k-end}
 
 pub is_missing-requires-clause-within : goal.is_missing-requires-clause-within
 is_missing-requires-clause-within c =
@@ -23,8 +23,8 @@ loop-k-preserved c =
     ])
     c.loop-k.invariant
 
-pub returns-clause-late : goal.returns-clause-late
-returns-clause-late c = λ _ k h.
+pub returns : goal.returns
+returns c = λ k h.
     let s = c.args.self.now in
     let at = c.as_slice-k-items.ensures ∙ get_or_read s.covering.items c.args.m _ (omega (arith, c.requires.within, s.turned.count, s.lawful.rows)) c.index.ensures [] in
     let Q = λ (k : ℕ). k < c.args.end → HasCover s.covers c.args.set.now k → get_or c.args.set.now k false ≡ true in
