@@ -1,4 +1,5 @@
 pub mod Bits
 pub mod Next
+pub mod Made
 pub mod Chosen
 pub mod PartRows

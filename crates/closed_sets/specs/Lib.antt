@@ -1,5 +1,7 @@
 pub mod Closed
 pub mod Later
+pub mod Adding
+pub mod Origins
 pub mod Listing
 pub mod Laws
 pub mod Ideals

@@ -1,4 +1,5 @@
 pub mod PassSteps
+pub mod Adding
 pub mod PairNumbers
 pub mod PairTables
 pub mod PairRows

@@ -101,6 +101,13 @@ module _ (s : Site) (laws : IsCategory s.category) (top : IsTopology s) (size : 
         let p = after f w g a low (In-into_from k (dom k f) g m) in
         let b = number_within k size move c (compose k f g) (move g w) p.0 p.1 in
         omega (arith, b, is, length-table k size move (into k) c);
+    itself = λ i low.
+        let (f, w, a, l, e) = row_of k size move (into k) c i low in
+        let object = laws.ends f (a.0) in
+        let one = laws.identity (dom k f) object.0 in
+        let h = has_entry k size move (into k) c f w (dom k f) a l (In-into k (dom k f) (dom k f) one.0) in
+        let same : number (compose k f (dom k f)) (move (dom k f) w) ≡ i = ap (λ g. number g (move (dom k f) w)) (laws.right_neutral c f a) ∙ ap (number f) (restricts.identity (dom k f) w object.0 l) ∙ e in
+        subst (λ x. Has below x i) e (subst (λ y. Has below (number f w) y) same h);
     through = λ i j l h n.
         let (f, w, g, a, low, e, m, is) = entry_of k size move (into k) c i j h in
         let b = In-into_from k (dom k f) g m in

@@ -14,11 +14,11 @@ use Rattle.closed_sets.specs.IdealLaws.{in_list, length-lowered}
 use Rattle.place_closures.specs.Passes.{moves, covered, Has, AreTables}
 use Rattle.place_closures.specs.PassLaws.{same_places, length-covered, In-covered_from, In-restricted_from, restricted_moves, covered_covers}
 
-or_no : (b : Bool) → (b || false) ≡ b
+pub or_no : (b : Bool) → (b || false) ≡ b
 or_no true = refl
 or_no false = refl
 
-or_assoc : (a b c : Bool) → (a || (b || c)) ≡ ((a || b) || c)
+pub or_assoc : (a b c : Bool) → (a || (b || c)) ≡ ((a || b) || c)
 or_assoc true b c = refl
 or_assoc false b c = refl
 

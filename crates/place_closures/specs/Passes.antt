@@ -24,6 +24,7 @@ Has table i j = has j (get_or table i []) ≡ true
 pub record AreTables (below covers : List (List ℕ)) : Type 0 where
   pub rows : length covers ≡ length below
   pub within : (i j : ℕ) → Has below i j → j < length below
+  pub itself : (i : ℕ) → i < length below → Has below i i
   pub through : (i j l : ℕ) → Has below i j → Has below j l → Has below i l
   pub covers_below : (i j : ℕ) → Has covers i j → Has below i j
   pub sink : (i j l : ℕ) → Has below i j → Has covers j l → Has covers i l
@@ -36,3 +37,17 @@ IsRestrictionClosed below a = (i j : ℕ) → get_or a i false ≡ true → Has 
 
 abbrev pub IsCoverClosed : List (List ℕ) → List Bool → Type 0
 IsCoverClosed covers a = (i : ℕ) → i < length a → ((j : ℕ) → Has covers i j → get_or a j false ≡ true) → get_or a i false ≡ true
+
+-- whether a set has the whole cover of a place
+abbrev pub HasCover : List (List ℕ) → List Bool → ℕ → Type 0
+HasCover covers a k = (l : ℕ) → Has covers k l → get_or a l false ≡ true
+
+-- k is before the end, and the set has it not, though it has its cover
+abbrev pub IsMissing : List (List ℕ) → List Bool → ℕ → ℕ → Type 0
+IsMissing covers a end k = (k < end) × (get_or a k false ≡ false) × HasCover covers a k
+
+-- for each place those whose row has it
+pub record AreTurned (rows turned : List (List ℕ)) : Type 0 where
+  pub count : length turned ≡ length rows
+  pub within : (j i : ℕ) → Has turned j i → i < length rows
+  pub whole : (i j : ℕ) → Has rows i j → Has turned j i

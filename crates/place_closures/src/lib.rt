@@ -4,6 +4,7 @@
 mod elements;
 mod passes;
 mod tables;
+mod turned;
 
 pub use elements::{Elements, OneEach};
 pub use passes::TwoPasses;

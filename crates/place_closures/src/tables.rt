@@ -170,5 +170,5 @@ pub fn pair_passes<X: Elements>(
     let starts = pair_starts(alloc, cat, x, c)?;
     let below = below_table(alloc, cat, x, c, &starts)?;
     let covers = cover_table(alloc, site, x, c, &starts)?;
-    Ok(TwoPasses::new(below, covers))
+    TwoPasses::new(alloc, below, covers)
 }
