@@ -2,7 +2,7 @@
 use Rattle.std.proofs.Common.{◌≡◌, ℕ, zero, suc, ◌+◌, ◌<◌, ◌≤◌, true, inl, inr, List, [], ◌∷◌, ◌++◌, length, get_or, map, refl, sym, ap, ap₂, subst, ◌∙◌, arith}
 use Rattle.std.specs.List.{range_with_len}
 use Rattle.std.proofs.lemmas.Bool.{cases_Bool, cases_lt, cond-true, cond-false, ltb-true, lt-ltb}
-use Rattle.std.proofs.lemmas.List.{length-map, get_or-map, ext_get_or, get_or_append_left, length_push}
+use Rattle.std.proofs.lemmas.List.{length-map, get_or-map, ext_get_or, get_or_append_left, get_or_push, length_push}
 use Rattle.std.proofs.lemmas.List.FromFn.{length-range_with_len, get_or-range_with_len, length-map-range_with_len, get_or-map-range_with_len}
 use Rattle.finite_lists.specs.Members.{In}
 use Rattle.finite_lists.proofs.Lists.{map_same, all_each, each_all}
@@ -30,7 +30,7 @@ use Rattle.type_laws.proofs.Numbering.{act_numbered, place_of_at}
 use Rattle.type_laws.proofs.Presheaves.{Distinct-elements}
 use Rattle.type_laws.proofs.Same.{same_equal, same_self}
 use Rattle.named_functors.proofs.MoreFunctors.{type_agrees}
-use Rattle.formula_answers.specs.MapTables.{pairs_at, pairs_of, IsMapTable}
+use Rattle.formula_answers.specs.MapTables.{no_table, table_at, pairs_at, pairs_of, IsMapTable, AreMapTables}
 
 -- the elements of a presheaf by number are those of the type that names it
 module _ (s : Site) (functors : List Presheaf) (n : ℕ) where
@@ -177,6 +177,28 @@ module _ (s : Site) (functors : List Presheaf) (X : Presheaf) where
         sym (ap₂
         (λ (from to : ℕ → List Val). map (λ c. map (λ x. (get_or (from c) x Star, get_or (to c) (get_or (get_or m.rows c []) x 0) Star)) (range_with_len 0 (length (from c)))) (objects_of s.category))
         (same_later m.ends.dom h.domain).0 (same_later m.ends.cod h.codomain).0)
+
+  module _ (tables : List MapTable) (are : AreMapTables s functors tables) where
+    pub tables_later : AreMapTables s (functors ++ X ∷ []) tables
+    tables_later n low = table_later (table_at tables n) (are n low)
+
+    pub all_pairs_later : map (pairs_of s (functors ++ X ∷ [])) tables ≡ map (pairs_of s functors) tables
+    all_pairs_later =
+        let long : length (map (pairs_of s all) tables) ≡ length tables = length-map tables (pairs_of s all) in
+        ext_get_or [] (map (pairs_of s all) tables) (map (pairs_of s functors) tables) (long ∙ sym (length-map tables (pairs_of s functors)))
+        (λ n low.
+        let there : n < length tables = omega (arith, low, long) in
+        get_or-map (pairs_of s all) tables n no_table [] there ∙ pairs_later (table_at tables n) (are n there) ∙ sym (get_or-map (pairs_of s functors) tables n no_table [] there))
+
+-- one map more
+module _ (s : Site) (functors : List Presheaf) (tables : List MapTable) (are : AreMapTables s functors tables) (m : MapTable) (h : IsMapTable s functors m) where
+  pub tables_with : AreMapTables s functors (tables ++ m ∷ [])
+  tables_with n low = elim (cases_lt n (length tables)) [
+    | inl there ↦ subst (IsMapTable s functors) (sym (get_or_append_left tables (m ∷ []) no_table n there)) (are n there)
+    | inr past ↦
+        let last : length tables ≡ n = omega (arith, low, past, length_push tables m) in
+        subst (IsMapTable s functors) (sym (get_or_push tables m no_table n last)) h
+  ]
 
 -- the image in a list of pairs by number
 image_in : (g h : ℕ → Val) (a n k : ℕ) → a ≤ k → k < a + n → ((x : ℕ) → x < a + n → g x ≡ g k → x ≡ k) → image_of (g k) (map (λ x. (g x, h x)) (range_with_len a n)) ≡ h k
