@@ -10,7 +10,7 @@ use Rattle.finite_lists.proofs.DistinctLists.{In-range_from}
 use Rattle.topos_model.specs.declared.ty.Ty.{Ty, Base, One, Omega, Two', Pow', Fun'}
 use Rattle.topos_model.specs.declared.value.Val.{Val, El, Star}
 use Rattle.topos_model.specs.declared.context.MapTable.{MapTable}
-use Rattle.topos_model.specs.categories.Category.{Category, dom, cod}
+use Rattle.topos_model.specs.categories.Category.{dom, cod}
 use Rattle.topos_model.specs.topologies.Cover.{Site}
 use Rattle.topos_model.specs.Laws.{IsFunctor, size, act}
 use Rattle.topos_model.specs.types.Types.{Presheaf, functor, elements, restr, base_elements, base_along}
@@ -26,7 +26,7 @@ use Rattle.term_ranges.specs.Ranges.{is_part_in_range, is_type_in_range}
 use Rattle.term_ranges.proofs.RangeEquations.{part_name}
 use Rattle.type_laws.specs.Numbered.{numbered, place_of}
 use Rattle.type_laws.specs.TypeLaws.{TypeFunctor}
-use Rattle.type_laws.proofs.Numbering.{act_numbered, place_of_at}
+use Rattle.type_laws.proofs.Numbering.{place_of_at}
 use Rattle.type_laws.proofs.Presheaves.{Distinct-elements}
 use Rattle.type_laws.proofs.Same.{same_equal, same_self}
 use Rattle.named_functors.proofs.MoreFunctors.{type_agrees}

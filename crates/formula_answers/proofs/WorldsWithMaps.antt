@@ -1,5 +1,5 @@
 -- A sealed world with maps by their tables is a lawful one.
-use Rattle.std.proofs.Common.{◌≡◌, ℕ, ◌^◌, ◌<◌, ◌≤◌, zero, suc, inl, inr, List, [], ◌∷◌, length, get_or, map, Some, refl, sym, ap, ap₂, subst, ◌∙◌, arith}
+use Rattle.std.proofs.Common.{◌≡◌, ℕ, ◌^◌, ◌<◌, ◌≤◌, zero, suc, inl, inr, List, [], ◌∷◌, length, get_or, Some, refl, sym, ap, subst, ◌∙◌, arith}
 use denote.Bor.{Bor}
 use Rattle.std.proofs.lemmas.List.{get_or_default, get_or_past, length-map, get_or-map}
 use Rattle.std.proofs.lemmas.List.FromFn.{get_or-map-range_with_len}
@@ -13,25 +13,23 @@ use Rattle.topos_model.specs.declared.context.MapTy.{MapTy}
 use Rattle.topos_model.specs.declared.context.MapTable.{MapTable}
 use Rattle.topos_model.specs.categories.Category.{Category, dom}
 use Rattle.topos_model.specs.Laws.{IsCategory, IsTopology, IsFunctor, IsInto, size, act}
-use Rattle.topos_model.specs.types.Types.{Presheaf, elements, restr}
+use Rattle.topos_model.specs.types.Types.{elements, restr}
 use Rattle.topos_model.specs.statements.Form.{max_arrows}
 use Rattle.topos_model.specs.formulas.Typing.{ends_of as ends_at}
-use Rattle.topos_model.specs.formulas.Forcing.{image_of, values}
+use Rattle.topos_model.specs.formulas.Forcing.{image_of}
 use Rattle.topos_model.specs.formulas.TermLaws.{IsWorld, image}
 use Rattle.type_laws.specs.Numbered.{place_of}
 use Rattle.type_laws.specs.TypeLaws.{TypeFunctor}
 use Rattle.type_laws.proofs.Numbering.{at_place_of, size_numbered, value_act}
 use Rattle.type_laws.proofs.Presheaves.{Distinct-elements, types_presheaf}
 use Rattle.type_laws.proofs.TypeFunctors.{types_are_functors}
-use Rattle.functor_store.specs.Store.{Store}
-use Rattle.functor_store.specs.Faithful.{Stands}
 use Rattle.omega_object.specs.declared.omega.Omega.{Omega}
 use Rattle.omega_object.specs.Tables.{IsOmegaOn}
 use Rattle.formula_tables.specs.Stages.{AreStages}
 use Rattle.term_tables.specs.Parts.{AreImages}
 use Rattle.internal_interp.specs.declared.interpreter.Interpreter.{Interpreter}
 use Rattle.sealed_world.specs.SealedWorlds.{CountedWorld, IsStoreOf}
-use Rattle.formula_answers.specs.MapTables.{ends_of, no_table, table_at, pairs_at, pairs_of, IsMapTable, AreMapTables}
+use Rattle.formula_answers.specs.MapTables.{ends_of, no_table, table_at, pairs_at, pairs_of, AreMapTables}
 use Rattle.formula_answers.specs.Formulas.{world_of, Serves}
 use Rattle.formula_answers.proofs.MapTables.{table_image}
 
