@@ -40,11 +40,11 @@ module _ (s : Site) (functors : List Presheaf) (n : ℕ) where
   abbrev values_at : ℕ → List Val
   values_at c = elements s functors (Base n) c
 
-  base_count : (c : ℕ) → length (elements s functors (Base n) c) ≡ size (functor s functors n) c
+  pub base_count : (c : ℕ) → length (elements s functors (Base n) c) ≡ size (functor s functors n) c
   unfolding elements base_elements
   base_count c = length-map (range_with_len 0 (size X c)) El ∙ length-range_with_len 0 (size X c)
 
-  base_value : (c x : ℕ) → x < size (functor s functors n) c → get_or (elements s functors (Base n) c) x Star ≡ El x
+  pub base_value : (c x : ℕ) → x < size (functor s functors n) c → get_or (elements s functors (Base n) c) x Star ≡ El x
   unfolding elements base_elements
   base_value c x low =
       let z : 0 + x ≡ x = omega arith in
@@ -138,7 +138,7 @@ part_later n n' more (Two' a u b v) h = refl
 part_later n n' more (Pow' a u) h = refl
 part_later n n' more (Fun' a u b v) h = refl
 
-type_later : (n n' : ℕ) → n ≤ n' → (T : Ty) → is_type_in_range n T ≡ true → is_type_in_range n' T ≡ true
+pub type_later : (n n' : ℕ) → n ≤ n' → (T : Ty) → is_type_in_range n T ≡ true → is_type_in_range n' T ≡ true
 unfolding is_type_in_range
 type_later n n' more T h = each_all (is_part_in_range n') (parts T) (λ P i. part_later n n' more P (all_each (is_part_in_range n) (parts T) P h i))
 
@@ -154,10 +154,10 @@ module _ (s : Site) (functors : List Presheaf) (X : Presheaf) where
   abbrev Same : Ty → Type 0
   Same T = (elements s functors T ≡ elements s (functors ++ X ∷ []) T) × (restr s functors T ≡ restr s (functors ++ X ∷ []) T)
 
-  same_later : (T : Ty) → is_type_in_range (length functors) T ≡ true → Same T
+  pub same_later : (T : Ty) → is_type_in_range (length functors) T ≡ true → Same T
   same_later T h = type_agrees s functors all T (λ n i. sym (get_or_append_left functors (X ∷ []) _ n (named_low (length functors) T h n i)))
 
-  functor_later : (T : Ty) → is_type_in_range (length functors) T ≡ true → TypeFunctor s functors T ≡ TypeFunctor s (functors ++ X ∷ []) T
+  pub functor_later : (T : Ty) → is_type_in_range (length functors) T ≡ true → TypeFunctor s functors T ≡ TypeFunctor s (functors ++ X ∷ []) T
   functor_later T h = let e = same_later T h in ap₂ (numbered s.category) e.0 e.1
 
   module _ (m : MapTable) (h : IsMapTable s functors m) where

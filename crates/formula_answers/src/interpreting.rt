@@ -11,7 +11,7 @@ use sealed_world::SealedWorld;
 use topos_model::MapTable;
 
 /// A sealed world, whose types are sealed and whose presheaves are declared, with maps by their tables.
-pub(crate) fn interpreter<'a>(
+pub fn interpreter<'a>(
     world: &'a SealedWorld,
     maps: &'a [MapTable],
     stages: &'a Stages,
