@@ -1,0 +1,5 @@
+pub mod NumberTables
+pub mod NumberedPresheaves
+pub mod KeptElements
+pub mod TermNumbers
+pub mod SealedPresheaves

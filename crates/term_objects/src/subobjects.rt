@@ -1,0 +1,10 @@
+// Subobjects by comprehension.
+use presheaf_core::Functor;
+use topos_model::Row;
+
+/// A presheaf with its inclusion in another one: for each object the numbers of its elements there.
+#[derive(Drop)]
+pub struct Subobject {
+    pub functor: Functor,
+    pub inclusion: Row<Row<u32>>,
+}
