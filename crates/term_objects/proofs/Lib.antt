@@ -3,3 +3,4 @@ pub mod NumberedPresheaves
 pub mod KeptElements
 pub mod TermNumbers
 pub mod SealedPresheaves
+pub mod TypePresheaves

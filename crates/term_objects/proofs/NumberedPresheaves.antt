@@ -1,8 +1,8 @@
 -- A functor of values by numbers, as answers have it, and parts of a presheaf of values.
-use Rattle.std.proofs.Common.{◌≡◌, ℕ, zero, suc, ◌<◌, Bool, true, cond, inl, inr, List, [], ◌∷◌, length, map, refl, sym, ap, ap₂, subst, ◌∙◌, arith}
-use Rattle.std.proofs.lemmas.Bool.{cases_Bool, cond-true, cond-false}
-use Rattle.finite_lists.specs.Members.{In, Distinct}
-use Rattle.finite_lists.proofs.Lists.{map_same, In_at}
+use Rattle.std.proofs.Common.{◌≡◌, ℕ, suc, ◌<◌, cond, inl, inr, List, [], ◌∷◌, length, map, refl, ap, subst, ◌∙◌, arith}
+use Rattle.std.proofs.lemmas.Bool.{cases_Bool, cond-false}
+use Rattle.finite_lists.specs.Members.{In}
+use Rattle.finite_lists.proofs.Lists.{map_same}
 use Rattle.topos_model.specs.declared.value.Val.{Val, Star}
 use Rattle.topos_model.specs.categories.Category.{Category, dom, cod, arrows}
 use Rattle.topos_model.specs.Laws.{IsCategory, IsInto, IsFunctor, size, act}

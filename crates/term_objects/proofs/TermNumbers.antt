@@ -1,6 +1,5 @@
 -- The values of a term over one variable, by numbers: a map table.
-use Rattle.std.proofs.Common.{◌≡◌, ℕ, suc, ◌<◌, true, List, [], ◌∷◌, length, get_or, map, Ok, refl, sym, ap, ap₂, subst, ◌∙◌, arith, append-nil}
-use Rattle.std.specs.Prelude.{◌&&◌}
+use Rattle.std.proofs.Common.{◌≡◌, ℕ, suc, ◌<◌, true, List, [], ◌∷◌, length, get_or, map, refl, sym, ap, subst, ◌∙◌, arith, append-nil}
 use Rattle.std.specs.List.{range_with_len, list_all}
 use Rattle.std.proofs.lemmas.Bool.{and_from}
 use Rattle.std.proofs.lemmas.List.{length-map, get_or-map}
@@ -11,11 +10,11 @@ use Rattle.topos_model.specs.declared.ty.Ty.{Ty}
 use Rattle.topos_model.specs.declared.term.Term.{Term}
 use Rattle.topos_model.specs.declared.value.Val.{Val, Star}
 use Rattle.topos_model.specs.declared.context.MapTable.{MapTable}
-use Rattle.topos_model.specs.categories.Category.{Category, dom}
+use Rattle.topos_model.specs.categories.Category.{dom}
 use Rattle.topos_model.specs.Laws.{IsInto}
 use Rattle.topos_model.specs.types.Types.{elements, restr}
 use Rattle.topos_model.specs.presheaves.Maps.{IsNatural}
-use Rattle.topos_model.specs.formulas.Forcing.{World, Assigned, values, along, value, tuples}
+use Rattle.topos_model.specs.formulas.Forcing.{World, values, along, value, tuples}
 use Rattle.topos_model.specs.formulas.TermLaws.{IsWorld}
 use Rattle.topos_model.specs.statements.Cells.{objects_of}
 use Rattle.topos_model.specs.statements.Answers.{values_of}
@@ -28,7 +27,7 @@ use Rattle.forcing_laws.proofs.Theorem.{values_restrict}
 use Rattle.truth_tables.specs.Standing.{counts, tuple_at, IsNumberTable}
 use Rattle.truth_tables.proofs.Standing.{counts_long, counts_at}
 use Rattle.sealed_world.specs.SealedWorlds.{CountedWorld}
-use Rattle.formula_answers.specs.MapTables.{ends_of, no_table, table_at, pairs_at, pairs_of, IsMapTable, AreMapTables}
+use Rattle.formula_answers.specs.MapTables.{ends_of, table_at, pairs_at, pairs_of}
 use Rattle.formula_answers.specs.Formulas.{world_of, IsTermOver}
 use Rattle.term_objects.specs.TermObjects.{IsTermMap}
 use Rattle.term_objects.proofs.NumberTables.{map_places, AreImageNumbers, natural_numbers}

@@ -1,7 +1,6 @@
 use Rattle.std.proofs.Common.{◌≡◌, List, [], ◌∷◌, reverse, sym, ap, subst, ◌∙◌}
 use Rattle.finite_lists.specs.Members.{In}
 use Rattle.topos_model.specs.declared.ty.Ty.{Ty}
-use Rattle.topos_model.specs.formulas.Forcing.{value}
 use Rattle.topos_model.specs.statements.Needs.{parts, product}
 use Rattle.internal_interp.specs.Known.{IsScope}
 use Rattle.formula_answers.specs.MapTables.{ends_of}
