@@ -13,7 +13,7 @@ use Rattle.type_laws.proofs.Numbering.{place_of_at}
 use Rattle.term_objects.specs.KeptElements.{true_numbers, true_counts}
 use Rattle.term_objects.proofs.NumberTables.{map_places}
 
-filter_map : {A B : Type 0} (p : B → Bool) (f : A → B) (xs : List A) → filter p (map f xs) ≡ map f (filter (λ x. p (f x)) xs)
+pub filter_map : {A B : Type 0} (p : B → Bool) (f : A → B) (xs : List A) → filter p (map f xs) ≡ map f (filter (λ x. p (f x)) xs)
 filter_map p f [] = refl
 filter_map p f (x ∷ xs) = elim (cases_Bool (p (f x))) [
   | inl e ↦ cond-true (p (f x)) (f x ∷ filter p (map f xs)) (filter p (map f xs)) e ∙ ap (λ l. f x ∷ l) (filter_map p f xs) ∙ sym (ap (map f) (cond-true (p (f x)) (x ∷ filter (λ x. p (f x)) xs) (filter (λ x. p (f x)) xs) e))

@@ -4,3 +4,5 @@ pub mod KeptElements
 pub mod TermNumbers
 pub mod SealedPresheaves
 pub mod TypePresheaves
+pub mod TrueRows
+pub mod PartNumbers
