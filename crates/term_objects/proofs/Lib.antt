@@ -6,3 +6,4 @@ pub mod SealedPresheaves
 pub mod TypePresheaves
 pub mod TrueRows
 pub mod PartNumbers
+pub mod SubobjectTables
