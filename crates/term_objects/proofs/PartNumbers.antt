@@ -1,10 +1,10 @@
 -- The elements of a sealed type for which a property holds, by their numbers.
-use Rattle.std.proofs.Common.{◌≡◌, ℕ, ◌<◌, Bool, true, List, [], length, get_or, map, filter, refl, sym, ap, ap₂, subst, ◌∙◌, arith}
+use Rattle.std.proofs.Common.{◌≡◌, ℕ, ◌<◌, Bool, true, List, [], length, get_or, map, refl, sym, ap, ap₂, subst, ◌∙◌, arith}
 use Rattle.std.specs.List.{range_with_len}
 use Rattle.std.proofs.lemmas.List.{length-map}
 use Rattle.std.proofs.lemmas.List.FromFn.{length-map-range_with_len, get_or-map-range_with_len}
 use Rattle.std.proofs.lemmas.Simd.{map-map}
-use Rattle.finite_lists.specs.Members.{In, Distinct}
+use Rattle.finite_lists.specs.Members.{In}
 use Rattle.finite_lists.proofs.Lists.{map_same, In_at, In-filter, In-filter_from}
 use Rattle.finite_lists.proofs.DistinctLists.{In-range_from, Distinct-filter}
 use Rattle.topos_model.specs.declared.ty.Ty.{Ty}
@@ -14,15 +14,13 @@ use Rattle.topos_model.specs.topologies.Cover.{Site}
 use Rattle.topos_model.specs.Laws.{IsCategory, IsFunctor}
 use Rattle.topos_model.specs.types.Types.{Presheaf, elements, restr}
 use Rattle.topos_model.specs.statements.Cells.{objects_of}
-use Rattle.topos_model.specs.statements.Answers.{numbered as answer_numbered}
 use Rattle.type_laws.specs.Numbered.{place_of, numbered}
 use Rattle.type_laws.proofs.Numbering.{numbered_functor}
 use Rattle.type_laws.proofs.Places.{IsPresheaf}
 use Rattle.type_laws.proofs.Presheaves.{types_presheaf, Distinct-elements}
-use Rattle.functor_store.specs.Store.{Store, functor_at, size_at, restriction_along}
+use Rattle.functor_store.specs.Store.{Store, functor_at, restriction_along}
 use Rattle.functor_store.specs.Faithful.{HasElements, Stands}
 use Rattle.truth_tables.specs.Tables.{row}
-use Rattle.term_objects.specs.declared.made.Subobject.{Subobject}
 use Rattle.term_objects.specs.KeptElements.{true_numbers, true_counts, kept_along, moved, AreTruths, AreKept}
 use Rattle.term_objects.specs.TermObjects.{TrueElements, IsPart, kept_elements as kept, kept_numbers as numbers}
 use Rattle.term_objects.proofs.KeptElements.{kept_values, kept_numbers, kept_place}

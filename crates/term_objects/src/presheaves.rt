@@ -21,7 +21,7 @@ use std::alloc::Global;
 use topos_model::{NoMemory, Row, Ty};
 
 // The place of a type that is sealed.
-pub(crate) fn place_of(store: &FunctorStore, ty: &Ty) -> FunctorId
+fn place_of(store: &FunctorStore, ty: &Ty) -> FunctorId
     requires held { Holds store.now ty.now }
     ensures place { IsSealed store.now ty.now result }
 {

@@ -25,18 +25,14 @@ use truth_tables::row_at;
 
 // For each object how many elements are kept, the numbers of these, and for each element how many before it are kept.
 #[derive(Drop)]
-pub(crate) struct Kept {
+struct Kept {
     sizes: Row<u32>,
     numbers: Row<Row<u32>>,
     places: Row<Row<u32>>,
 }
 
 // The numbers of the elements that are true, and for each element how many before it are.
-fn kept_row(
-    alloc: Global,
-    truths: &[bool],
-    size: u32,
-) -> Result<(Row<u32>, Row<u32>), NoMemory>
+fn kept_row(alloc: Global, truths: &[bool], size: u32) -> Result<(Row<u32>, Row<u32>), NoMemory>
     requires elements { length truths.now ≡ size }
     ensures numbers { IfOk result (λ kept. kept.0 ≡ true_numbers truths.now) }
     ensures few { IfOk result (λ kept. length kept.0 ≤ size) }
@@ -168,11 +164,9 @@ pub fn subobject(
     let types = one_type(alloc, ty)?;
     let context = scope(alloc, &interpreter, types.as_slice())?;
     let truths = formula_truths(alloc, &interpreter, &context, formula)?;
-    let cat = interpreter.site.cat();
-    cat.laws();
     part(
         alloc,
-        cat,
+        interpreter.site.cat(),
         interpreter.store,
         context.place,
         truths.as_slice(),

@@ -1,6 +1,4 @@
-use Rattle.std.proofs.Common.{◌≡◌, ◌<◌, [], get_or, map, refl, sym, ap, ap₂, subst, ◌∙◌, length}
-use Rattle.topos_model.specs.categories.Category.{dom, cod}
-use Rattle.functor_store.specs.Store.{functor_at, size_at}
+use Rattle.std.proofs.Common.{[], get_or, map, ap, ap₂, ◌∙◌}
 use Rattle.truth_tables.proofs.Rows.{row-more}
 use Rattle.term_objects.specs.KeptElements.{kept_along, moved}
 use Rattle.term_objects.proofs.subobjects.kept_restrictions.Goals as goal

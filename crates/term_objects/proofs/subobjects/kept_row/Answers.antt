@@ -1,4 +1,4 @@
-use Rattle.std.proofs.Common.{◌≡◌, ◌+◌, ◌<◌, length, [], ◌∷◌, ◌++◌, sym, ap, ◌∙◌, arith}
+use Rattle.std.proofs.Common.{◌≡◌, ◌+◌, length, [], ◌∷◌, ◌++◌, sym, ap, ◌∙◌, arith}
 use Rattle.truth_tables.specs.Tables.{row}
 use Rattle.truth_tables.proofs.Rows.{row-more}
 use Rattle.term_objects.specs.KeptElements.{true_numbers, true_counts}

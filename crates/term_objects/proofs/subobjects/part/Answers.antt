@@ -1,6 +1,6 @@
-use Rattle.std.proofs.Common.{◌≡◌, length, sym, ap₂, subst, ◌∙◌}
+use Rattle.std.proofs.Common.{◌≡◌, length, ap₂, ◌∙◌}
 use Rattle.truth_tables.specs.Tables.{row}
-use Rattle.term_objects.specs.KeptElements.{kept_along, AreKept}
+use Rattle.term_objects.specs.KeptElements.{kept_along}
 use Rattle.term_objects.proofs.PartNumbers.{truths_made, kept_made, lawful_made, part_made}
 use Rattle.term_objects.proofs.subobjects.part.Goals as goal
 

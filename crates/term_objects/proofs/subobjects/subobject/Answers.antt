@@ -55,14 +55,14 @@ part-requires c =
     let scope = subst (λ Γ. IsScope W (ends_of c.args.maps.now) i Γ c.in_ok-context.context) one (c.in_ok-context.ensures.scope W (ends_of c.args.maps.now) serves.knows) in
     let whole = known w c.args.maps.now i serves (c.args.ty.now ∷ []) c.args.formula.now Omega c.requires.formula c.in_ok-context.context scope in
     let stands = subst (IsTruthTable W (c.args.ty.now ∷ []) (forces W c.args.formula.now)) (sym c.as_slice-2.ensures) (c.in_ok-truths.ensures.truths W (ends_of c.args.maps.now) (c.args.ty.now ∷ []) whole) in
-    let same = c.cat-cat.ensures ∙ ap (λ (s : Site). s.category) (sym serves.knows.site) in
+    let same = c.cat.ensures ∙ ap (λ (s : Site). s.category) (sym serves.knows.site) in
     record {
       known = (
         w.site,
         w.functors,
         c.args.ty.now,
         satisfies w c.args.maps.now c.args.ty.now c.args.formula.now,
-        true_elements w c.args.maps.now c.args.ty.now c.args.formula.now c.requires.formula serves.knows.lawful c.as_slice-2.result.now stands c.cat-cat.result.now i.store.now c.in_ok-context.context.place
+        true_elements w c.args.maps.now c.args.ty.now c.args.formula.now c.requires.formula serves.knows.lawful c.as_slice-2.result.now stands c.cat.result.now i.store.now c.in_ok-context.context.place
             same serves.knows.faithful (record { low = scope.known.sealed; key = scope.known.key }),
       );
     }
@@ -77,9 +77,9 @@ returns c =
     let scope = subst (λ Γ. IsScope W (ends_of c.args.maps.now) i Γ c.in_ok-context.context) one (c.in_ok-context.ensures.scope W (ends_of c.args.maps.now) serves.knows) in
     let whole = known w c.args.maps.now i serves (c.args.ty.now ∷ []) c.args.formula.now Omega c.requires.formula c.in_ok-context.context scope in
     let stands = subst (IsTruthTable W (c.args.ty.now ∷ []) (forces W c.args.formula.now)) (sym c.as_slice-2.ensures) (c.in_ok-truths.ensures.truths W (ends_of c.args.maps.now) (c.args.ty.now ∷ []) whole) in
-    let same = c.cat-cat.ensures ∙ ap (λ (s : Site). s.category) (sym serves.knows.site) in
+    let same = c.cat.ensures ∙ ap (λ (s : Site). s.category) (sym serves.knows.site) in
     let true_ones =
-    true_elements w c.args.maps.now c.args.ty.now c.args.formula.now c.requires.formula serves.knows.lawful c.as_slice-2.result.now stands c.cat-cat.result.now i.store.now c.in_ok-context.context.place
+    true_elements w c.args.maps.now c.args.ty.now c.args.formula.now c.requires.formula serves.knows.lawful c.as_slice-2.result.now stands c.cat.result.now i.store.now c.in_ok-context.context.place
     same serves.knows.faithful (record { low = scope.known.sealed; key = scope.known.key }) in
     record {
       subobject = IfOk-weaker c.part.result _ _ (λ made is. part_satisfies w c.args.maps.now c.args.ty.now c.args.formula.now made (is w.site w.functors c.args.ty.now (satisfies w c.args.maps.now c.args.ty.now c.args.formula.now) true_ones))
