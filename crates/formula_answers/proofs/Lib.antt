@@ -1,6 +1,7 @@
 pub mod KeptTuples
 pub mod ReadTuples
-pub mod WithoutMaps
+pub mod MapTables
+pub mod WorldsWithMaps
 pub mod ServedFormulas
 pub mod SieveArrows
 pub mod KeptAnswers

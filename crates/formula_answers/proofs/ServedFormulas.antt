@@ -1,10 +1,11 @@
--- A formula over a sealed world is known to what serves the world.
+-- A term over a sealed world is known to what serves the world.
 use Rattle.std.proofs.Common.{◌≡◌, ℕ, ◌^◌, ◌<◌, inl, inr, Bool, List, [], ◌∷◌, ◌++◌, length, get_or, flat_map, Some, MatchOption, refl, sym, ap, subst, arith}
 use denote.Bor.{Bor}
 use Rattle.finite_lists.specs.Members.{In}
 use Rattle.finite_lists.proofs.Lists.{In-append_right, In-flat_map}
 use Rattle.topos_model.specs.declared.ty.Ty.{Ty, Base, One, Omega, Two', Pow', Fun', more_of-Ty as one, end_of-Ty as none}
 use Rattle.topos_model.specs.declared.term.Term.{Term}
+use Rattle.topos_model.specs.declared.context.MapTable.{MapTable}
 use Rattle.topos_model.specs.formulas.Typing.{typed}
 use Rattle.topos_model.specs.formulas.Forcing.{forces, value}
 use Rattle.topos_model.specs.statements.Needs.{found, parts, product, subterms, term_needs}
@@ -23,11 +24,12 @@ use Rattle.internal_interp.specs.Known.{AreServed, IsScope, IsKnown, IsValued}
 use Rattle.element_values.specs.declared.elements.Elements.{Elements}
 use Rattle.element_values.specs.Known.{IsReadable}
 use Rattle.sealed_world.specs.SealedWorlds.{CountedWorld}
-use Rattle.formula_answers.specs.Formulas.{world_of, reading, IsFormulaOver, Serves}
+use Rattle.formula_answers.specs.MapTables.{ends_of}
+use Rattle.formula_answers.specs.Formulas.{world_of, reading, IsTermOver, Serves}
 use Rattle.formula_answers.specs.Stages.{AreCounted, AreTruths, AreSieves}
 
-module _ (w : CountedWorld) (i : Interpreter) (serves : Serves w i) (Γ : List Ty) (φ : Term) (h : IsFormulaOver w Γ φ) where
-  held : (P : Ty) → In (term_needs [] Γ φ) P → Holds i.store.now P
+module _ (w : CountedWorld) (tables : List MapTable) (i : Interpreter) (serves : Serves w tables i) (Γ : List Ty) (t : Term) (U : Ty) (h : IsTermOver w tables Γ t U) where
+  held : (P : Ty) → In (term_needs (ends_of tables) Γ t) P → Holds i.store.now P
   unfolding is_named
   held (Base n) m = serves.presheaves n (h.named n m)
   held One m = serves.types One (h.counted One m refl)
@@ -36,43 +38,43 @@ module _ (w : CountedWorld) (i : Interpreter) (serves : Serves w i) (Γ : List T
   held (Pow' a (one T none)) m = serves.types (Pow' a (one T none)) (h.counted (Pow' a (one T none)) m refl)
   held (Fun' a (one S none) b (one T none)) m = serves.types (Fun' a (one S none) b (one T none)) (h.counted (Fun' a (one S none) b (one T none)) m refl)
 
-  there : In (term_needs [] Γ φ) Omega → (Ω : Bor TruthValues) × (i.omega ≡ Some Ω)
+  there : In (term_needs (ends_of tables) Γ t) Omega → (Ω : Bor TruthValues) × (i.omega ≡ Some Ω)
   unfolding is_named
   there m = serves.truth_values (h.counted Omega m refl)
 
   -- the types of a subterm and of its context
   abbrev types_of : List Ty × Term → List Ty
-  types_of s = found (typed [] s.0 s.1) ++ product s.0 ∷ s.0
+  types_of s = found (typed (ends_of tables) s.0 s.1) ++ product s.0 ∷ s.0
 
-  needed : (s : List Ty × Term) (T P : Ty) → In (subterms Γ φ) s → In (types_of s) T → In (parts T) P → In (term_needs [] Γ φ) P
+  needed : (s : List Ty × Term) (T P : Ty) → In (subterms Γ t) s → In (types_of s) T → In (parts T) P → In (term_needs (ends_of tables) Γ t) P
   unfolding term_needs
-  needed s T P m j p = In-flat_map parts (flat_map types_of (subterms Γ φ)) T P (In-flat_map types_of (subterms Γ φ) s T m j) p
+  needed s T P m j p = In-flat_map parts (flat_map types_of (subterms Γ t)) T P (In-flat_map types_of (subterms Γ t) s T m j) p
 
-  served : AreServed (world_of w) [] i (subterms Γ φ)
-  served = record { each = λ s m T j. ((named_sheaves (world_of w) [] Γ φ h.sheaves).each s m T j, λ P p. held P (needed s T P m j p), λ p. there (needed s T Omega m j p)) }
+  served : AreServed (world_of w tables) (ends_of tables) i (subterms Γ t)
+  served = record { each = λ s m T j. ((named_sheaves (world_of w tables) (ends_of tables) Γ t h.sheaves).each s m T j, λ P p. held P (needed s T P m j p), λ p. there (needed s T Omega m j p)) }
 
-  pub known : (context : Context) → IsScope (world_of w) [] i Γ context → IsKnown (world_of w) [] i Γ Omega context φ
-  known context scope = record { knows = serves.knows; scope = scope; typing = typed_by_rules [] Γ φ Omega h.typing; served = served }
+  pub known : (context : Context) → IsScope (world_of w tables) (ends_of tables) i Γ context → IsKnown (world_of w tables) (ends_of tables) i Γ U context t
+  known context scope = record { knows = serves.knows; scope = scope; typing = typed_by_rules (ends_of tables) Γ t U h.typing; served = served }
 
-  in_context : (T : Ty) → In (product Γ ∷ Γ) T → In (types_of (Γ, φ)) T
-  in_context T m = In-append_right (found (typed [] Γ φ)) (product Γ ∷ Γ) T m
+  in_context : (T : Ty) → In (product Γ ∷ Γ) T → In (types_of (Γ, t)) T
+  in_context T m = In-append_right (found (typed (ends_of tables) Γ t)) (product Γ ∷ Γ) T m
 
   pub product_held : (P : Ty) → In (parts (product Γ)) P → Holds i.store.now P
-  product_held P p = held P (needed (Γ, φ) (product Γ) P (inl refl) (in_context (product Γ) (inl refl)) p)
+  product_held P p = held P (needed (Γ, t) (product Γ) P (inl refl) (in_context (product Γ) (inl refl)) p)
 
-  readable : (T : Ty) → In (types_of (Γ, φ)) T → IsReadable (reading i) T
+  readable : (T : Ty) → In (types_of (Γ, t)) T → IsReadable (reading i) T
   readable T j = record {
-    held = λ P p. held P (needed (Γ, φ) T P (inl refl) j p);
+    held = λ P p. held P (needed (Γ, t) T P (inl refl) j p);
     omega = λ p.
-        let (Ω, e) = there (needed (Γ, φ) T Omega (inl refl) j p) in
+        let (Ω, e) = there (needed (Γ, t) T Omega (inl refl) j p) in
         subst (λ o. MatchOption o ⊥ (λ Ω. IsOmegaOn i.site.now Ω.now)) (sym e) (subst (λ s. IsOmegaOn s Ω.now) serves.knows.site (serves.knows.omega Ω e));
   }
 
-  module _ (context : Context) (scope : IsScope (world_of w) [] i Γ context) where
+  module _ (context : Context) (scope : IsScope (world_of w tables) (ends_of tables) i Γ context) where
     pub few_objects : length (get_or context.sizes 0 []) < 2 ^ 32
-    few_objects = let few = serves.few in omega (arith, few, ap length scope.known.counted, counts_long (world_of w) Γ)
+    few_objects = let few = serves.few in omega (arith, few, ap length scope.known.counted, counts_long (world_of w tables) Γ)
 
-    counted : AreCounted (reading i) (world_of w) Γ (get_or context.sizes 0 [])
+    counted : AreCounted (reading i) (world_of w tables) Γ (get_or context.sizes 0 [])
     counted = record {
       world = record { site = serves.knows.site; faithful = subst (λ s. IsFaithful s w.functors i.store.now) serves.knows.site serves.knows.faithful };
       readable = λ T m. readable T (in_context T (inr m));
@@ -80,17 +82,22 @@ module _ (w : CountedWorld) (i : Interpreter) (serves : Serves w i) (Γ : List T
     }
 
     module _ (e : Elements) (sizes : List ℕ) (read : e ≡ reading i) (sized : sizes ≡ get_or context.sizes 0 []) where
-      given : AreCounted e (world_of w) Γ sizes
-      given = subst (λ e. AreCounted e (world_of w) Γ sizes) (sym read) (subst (AreCounted (reading i) (world_of w) Γ) (sym sized) counted)
+      -- the tuples can be read
+      pub given : AreCounted e (world_of w tables) Γ sizes
+      given = subst (λ e. AreCounted e (world_of w tables) Γ sizes) (sym read) (subst (AreCounted (reading i) (world_of w tables) Γ) (sym sized) counted)
 
-      pub truths_known : (truths rows : List (List Bool)) → rows ≡ truths → IsTruthTable (world_of w) Γ (forces (world_of w) φ) truths → AreTruths e (world_of w) Γ sizes (forces (world_of w) φ) rows
-      truths_known truths rows r stands = record { tuples = given; stands = subst (IsTruthTable (world_of w) Γ (forces (world_of w) φ)) (sym r) stands }
+      pub truths_known : (truths rows : List (List Bool)) → rows ≡ truths → IsTruthTable (world_of w tables) Γ (forces (world_of w tables) t) truths → AreTruths e (world_of w tables) Γ sizes (forces (world_of w tables) t) rows
+      truths_known truths rows r stands = record { tuples = given; stands = subst (IsTruthTable (world_of w tables) Γ (forces (world_of w tables) t)) (sym r) stands }
 
-      pub sieves_known : (v : Valued) (rows : List (List ℕ)) → rows ≡ v.numbers → IsValued (world_of w) Γ Omega φ v → AreSieves e (world_of w) Γ sizes (value (world_of w) φ) rows
-      sieves_known v rows r valued = record {
+      -- so can its values be
+      pub type_readable : IsReadable e U
+      type_readable = subst (λ e. IsReadable e U) (sym read) (readable U (subst (λ r. In (found r ++ product Γ ∷ Γ) U) (sym h.typing) (inl refl)))
+
+      pub sieves_known : (v : Valued) (rows : List (List ℕ)) → rows ≡ v.numbers → U ≡ Omega → IsValued (world_of w tables) Γ U t v → AreSieves e (world_of w tables) Γ sizes (value (world_of w tables) t) rows
+      sieves_known v rows r formula valued = record {
         tuples = given;
-        omega = subst (λ e. IsReadable e Omega) (sym read) (readable Omega (subst (λ r. In (found r ++ product Γ ∷ Γ) Omega) (sym h.typing) (inl refl)));
-        stands = subst (IsNumberTable (world_of w) Γ Omega (value (world_of w) φ)) (sym r) valued.stands;
+        omega = subst (IsReadable e) formula type_readable;
+        stands = subst (λ T. IsNumberTable (world_of w tables) Γ T (value (world_of w tables) t) rows) formula (subst (IsNumberTable (world_of w tables) Γ U (value (world_of w tables) t)) (sym r) valued.stands);
       }
 
     pub some_sizes : 0 < length context.sizes

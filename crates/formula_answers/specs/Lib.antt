@@ -1,2 +1,3 @@
+pub mod MapTables
 pub mod Formulas
 pub mod Stages

@@ -12,21 +12,22 @@ use formula_tables::Stages;
 use internal_interp::{formula_truths, scope, term_values};
 use sealed_world::SealedWorld;
 use std::alloc::Global;
-use topos_model::{NoMemory, Row, Term, Tuple, Ty};
+use topos_model::{MapTable, NoMemory, Row, Term, Tuple, Ty};
 
 // The tuples for which the formula is forced, or those for which it is not.
 fn tuples_where(
     alloc: Global,
     world: &SealedWorld,
+    maps: &[MapTable],
     types: &[Ty],
     formula: &Term,
     forced: bool,
 ) -> Result<Row<Row<Tuple>>, NoMemory>
-    requires formula { IsFormulaOver world.now (reverse types.now) formula.now }
-    ensures { IfOk result (λ stages. stages ≡ map (λ c. map tuple_of (kept forced (forces (world_of world.now) formula.now c) (tuples (world_of world.now) (reverse types.now) c))) (objects_of world.now.site.category)) }
+    requires formula { IsFormulaOver world.now maps.now (reverse types.now) formula.now }
+    ensures { IfOk result (λ stages. stages ≡ map (λ c. map tuple_of (kept forced (forces (world_of world.now maps.now) formula.now c) (tuples (world_of world.now maps.now) (reverse types.now) c))) (objects_of world.now.site.category)) }
 {
     let stages = Stages::of(alloc, world.site())?;
-    let interpreter = interpreter(world, &stages);
+    let interpreter = interpreter(world, maps, &stages);
     let context = scope(alloc, &interpreter, types)?;
     let truths = formula_truths(alloc, &interpreter, &context, formula)?;
     tuples_with(
@@ -43,40 +44,43 @@ fn tuples_where(
 pub fn shown(
     alloc: Global,
     world: &SealedWorld,
+    maps: &[MapTable],
     types: &[Ty],
     formula: &Term,
 ) -> Result<Row<Row<Tuple>>, NoMemory>
-    requires formula { IsFormulaOver world.now (reverse types.now) formula.now }
-    ensures stages { IfOk result (λ stages. stages ≡ map (λ c. map tuple_of (shown (world_of world.now) (reverse types.now) formula.now c)) (objects_of world.now.site.category)) }
+    requires formula { IsFormulaOver world.now maps.now (reverse types.now) formula.now }
+    ensures stages { IfOk result (λ stages. stages ≡ map (λ c. map tuple_of (shown (world_of world.now maps.now) (reverse types.now) formula.now c)) (objects_of world.now.site.category)) }
 {
-    tuples_where(alloc, world, types, formula, true)
+    tuples_where(alloc, world, maps, types, formula, true)
 }
 
 /// For each object the tuples of the context for which the formula is not forced, in order. It is valid if there are none (Mac Lane and Moerdijk, VI.6).
 pub fn unforced(
     alloc: Global,
     world: &SealedWorld,
+    maps: &[MapTable],
     types: &[Ty],
     formula: &Term,
 ) -> Result<Row<Row<Tuple>>, NoMemory>
-    requires formula { IsFormulaOver world.now (reverse types.now) formula.now }
-    ensures stages { IfOk result (λ stages. stages ≡ map (λ c. map tuple_of (unforced (world_of world.now) (reverse types.now) formula.now c)) (objects_of world.now.site.category)) }
+    requires formula { IsFormulaOver world.now maps.now (reverse types.now) formula.now }
+    ensures stages { IfOk result (λ stages. stages ≡ map (λ c. map tuple_of (unforced (world_of world.now maps.now) (reverse types.now) formula.now c)) (objects_of world.now.site.category)) }
 {
-    tuples_where(alloc, world, types, formula, false)
+    tuples_where(alloc, world, maps, types, formula, false)
 }
 
 /// For each object each tuple of the context with the closed sieve that classifies it: the arrows along which the formula is forced (Mac Lane and Moerdijk, VI.5).
 pub fn classified(
     alloc: Global,
     world: &SealedWorld,
+    maps: &[MapTable],
     types: &[Ty],
     formula: &Term,
 ) -> Result<Row<Row<(Tuple, Row<u32>)>>, NoMemory>
-    requires formula { IsFormulaOver world.now (reverse types.now) formula.now }
-    ensures stages { IfOk result (λ stages. stages ≡ map (classified (world_of world.now) (reverse types.now) formula.now) (objects_of world.now.site.category)) }
+    requires formula { IsFormulaOver world.now maps.now (reverse types.now) formula.now }
+    ensures stages { IfOk result (λ stages. stages ≡ map (classified (world_of world.now maps.now) (reverse types.now) formula.now) (objects_of world.now.site.category)) }
 {
     let stages = Stages::of(alloc, world.site())?;
-    let interpreter = interpreter(world, &stages);
+    let interpreter = interpreter(world, maps, &stages);
     let context = scope(alloc, &interpreter, types)?;
     let values = term_values(alloc, &interpreter, &context, formula)?;
     tuples_with_sieves(

@@ -1,17 +1,24 @@
 // What formulas are interpreted by, and what their tuples are read from.
 ghost use Rattle.std.specs.Prelude.{◌≡◌};
 ghost use Rattle.formula_tables.specs.Stages.{AreStages};
+ghost use Rattle.formula_answers.specs.MapTables.{AreMapTables};
 ghost use Rattle.formula_answers.specs.Formulas.{world_of, reading, Serves};
 
 use element_values::Elements;
 use formula_tables::Stages;
 use internal_interp::Interpreter;
 use sealed_world::SealedWorld;
+use topos_model::MapTable;
 
-/// A sealed world, whose types are sealed and whose presheaves are declared, without maps.
-pub(crate) fn interpreter<'a>(world: &'a SealedWorld, stages: &'a Stages) -> Interpreter<'a>
-    requires stages { AreStages (world_of world.now) stages.now }
-    ensures serves { Serves world.now result }
+/// A sealed world, whose types are sealed and whose presheaves are declared, with maps by their tables.
+pub fn interpreter<'a>(
+    world: &'a SealedWorld,
+    maps: &'a [MapTable],
+    stages: &'a Stages,
+) -> Interpreter<'a>
+    requires maps { AreMapTables world.now.site world.now.functors maps.now }
+    requires stages { AreStages (world_of world.now maps.now) stages.now }
+    ensures serves { Serves world.now maps.now result }
 {
     let site = world.site();
     site.cat().laws();
@@ -21,7 +28,7 @@ pub(crate) fn interpreter<'a>(world: &'a SealedWorld, stages: &'a Stages) -> Int
         stages,
         store: world.store(),
         omega: world.truth_values(),
-        maps: &[],
+        maps,
     }
 }
 

@@ -6,3 +6,4 @@ mod interpreting;
 mod stages;
 
 pub use answers::{classified, shown, unforced};
+pub use interpreting::interpreter;

@@ -1,60 +1,61 @@
-use Rattle.std.proofs.Common.{◌<◌, ◌^◌, [], length, reverse, sym, subst, ◌∙◌}
+use Rattle.std.proofs.Common.{◌<◌, ◌^◌, length, reverse, refl, sym, subst, ◌∙◌}
 use Rattle.std.proofs.lemmas.Result.{IfOk-weaker}
 use Rattle.topos_model.specs.declared.ty.Ty.{Omega}
 use Rattle.topos_model.specs.formulas.Forcing.{value}
+use Rattle.formula_answers.specs.MapTables.{ends_of}
 use Rattle.formula_answers.specs.Formulas.{world_of}
 use Rattle.formula_answers.proofs.KeptAnswers.{classified_with}
 use Rattle.formula_answers.proofs.ServedFormulas.{product_held, known, few_objects, some_sizes, sieves_known}
 use Rattle.formula_answers.proofs.answers.classified.Goals as goal
 
 pub interpreter-interpreter-requires : goal.interpreter-interpreter-requires
-interpreter-interpreter-requires c = record { stages = c.in_ok-stages.ensures (world_of c.args.world.now) (sym c.site.ensures) }
+interpreter-interpreter-requires c = record { maps = c.requires.formula.maps; stages = c.in_ok-stages.ensures (world_of c.args.world.now c.args.maps.now) (sym c.site.ensures) }
 
 pub scope-requires-clause-held : goal.scope-requires-clause-held
-scope-requires-clause-held c = product_held c.args.world.now c.interpreter-interpreter.result c.interpreter-interpreter.ensures.serves (reverse c.args.types.now) c.args.formula.now c.requires.formula
+scope-requires-clause-held c = product_held c.args.world.now c.args.maps.now c.interpreter-interpreter.result c.interpreter-interpreter.ensures.serves (reverse c.args.types.now) c.args.formula.now Omega c.requires.formula
 
 pub term_values-requires-clause-objects : goal.term_values-requires-clause-objects
 term_values-requires-clause-objects c =
     let serves = c.interpreter-interpreter.ensures.serves in
-    few_objects c.args.world.now c.interpreter-interpreter.result serves (reverse c.args.types.now) c.args.formula.now c.requires.formula c.in_ok-context.context (c.in_ok-context.ensures.scope (world_of c.args.world.now) [] serves.knows)
+    few_objects c.args.world.now c.args.maps.now c.interpreter-interpreter.result serves (reverse c.args.types.now) c.args.formula.now Omega c.requires.formula c.in_ok-context.context (c.in_ok-context.ensures.scope (world_of c.args.world.now c.args.maps.now) (ends_of c.args.maps.now) serves.knows)
 
 pub term_values-requires-clause-known : goal.term_values-requires-clause-known
 term_values-requires-clause-known c =
     let serves = c.interpreter-interpreter.ensures.serves in
     let Γ = reverse c.args.types.now in
-    (world_of c.args.world.now, [], Γ, Omega, known c.args.world.now c.interpreter-interpreter.result serves Γ c.args.formula.now c.requires.formula c.in_ok-context.context (c.in_ok-context.ensures.scope (world_of c.args.world.now) [] serves.knows))
+    (world_of c.args.world.now c.args.maps.now, ends_of c.args.maps.now, Γ, Omega, known c.args.world.now c.args.maps.now c.interpreter-interpreter.result serves Γ c.args.formula.now Omega c.requires.formula c.in_ok-context.context (c.in_ok-context.ensures.scope (world_of c.args.world.now c.args.maps.now) (ends_of c.args.maps.now) serves.knows))
 
 pub tuples-requires : goal.tuples-requires
 tuples-requires c =
     let serves = c.interpreter-interpreter.ensures.serves in
-    some_sizes c.args.world.now c.interpreter-interpreter.result serves (reverse c.args.types.now) c.args.formula.now c.requires.formula c.in_ok-context.context (c.in_ok-context.ensures.scope (world_of c.args.world.now) [] serves.knows)
+    some_sizes c.args.world.now c.args.maps.now c.interpreter-interpreter.result serves (reverse c.args.types.now) c.args.formula.now Omega c.requires.formula c.in_ok-context.context (c.in_ok-context.ensures.scope (world_of c.args.world.now c.args.maps.now) (ends_of c.args.maps.now) serves.knows)
 
 pub tuples_with_sieves-requires-clause-objects : goal.tuples_with_sieves-requires-clause-objects
 tuples_with_sieves-requires-clause-objects c =
     let serves = c.interpreter-interpreter.ensures.serves in
     subst (λ l. length l < 2 ^ 32) (sym c.tuples.ensures)
-    (few_objects c.args.world.now c.interpreter-interpreter.result serves (reverse c.args.types.now) c.args.formula.now c.requires.formula c.in_ok-context.context (c.in_ok-context.ensures.scope (world_of c.args.world.now) [] serves.knows))
+    (few_objects c.args.world.now c.args.maps.now c.interpreter-interpreter.result serves (reverse c.args.types.now) c.args.formula.now Omega c.requires.formula c.in_ok-context.context (c.in_ok-context.ensures.scope (world_of c.args.world.now c.args.maps.now) (ends_of c.args.maps.now) serves.knows))
 
 pub tuples_with_sieves-requires-clause-known : goal.tuples_with_sieves-requires-clause-known
 tuples_with_sieves-requires-clause-known c =
-    let w = world_of c.args.world.now in
+    let w = world_of c.args.world.now c.args.maps.now in
     let serves = c.interpreter-interpreter.ensures.serves in
     let Γ = reverse c.args.types.now in
-    let scope = c.in_ok-context.ensures.scope w [] serves.knows in
-    let whole = known c.args.world.now c.interpreter-interpreter.result serves Γ c.args.formula.now c.requires.formula c.in_ok-context.context scope in (
+    let scope = c.in_ok-context.ensures.scope w (ends_of c.args.maps.now) serves.knows in
+    let whole = known c.args.world.now c.args.maps.now c.interpreter-interpreter.result serves Γ c.args.formula.now Omega c.requires.formula c.in_ok-context.context scope in (
       w,
       value w c.args.formula.now,
-      sieves_known c.args.world.now c.interpreter-interpreter.result serves Γ c.args.formula.now c.requires.formula c.in_ok-context.context scope
-          c.elements.result c.tuples.result.now c.elements.ensures c.tuples.ensures c.in_ok-values.values c.as_slice.result.now c.as_slice.ensures (c.in_ok-values.ensures.values w [] Γ Omega whole),
+      sieves_known c.args.world.now c.args.maps.now c.interpreter-interpreter.result serves Γ c.args.formula.now Omega c.requires.formula c.in_ok-context.context scope
+          c.elements.result c.tuples.result.now c.elements.ensures c.tuples.ensures c.in_ok-values.values c.as_slice.result.now c.as_slice.ensures refl (c.in_ok-values.ensures.values w (ends_of c.args.maps.now) Γ Omega whole),
     )
 
 pub returns : goal.returns
 returns c =
-    let w = world_of c.args.world.now in
+    let w = world_of c.args.world.now c.args.maps.now in
     let serves = c.interpreter-interpreter.ensures.serves in
     let Γ = reverse c.args.types.now in
-    let scope = c.in_ok-context.ensures.scope w [] serves.knows in
-    let whole = known c.args.world.now c.interpreter-interpreter.result serves Γ c.args.formula.now c.requires.formula c.in_ok-context.context scope in
-    let fed = sieves_known c.args.world.now c.interpreter-interpreter.result serves Γ c.args.formula.now c.requires.formula c.in_ok-context.context scope
-    c.elements.result c.tuples.result.now c.elements.ensures c.tuples.ensures c.in_ok-values.values c.as_slice.result.now c.as_slice.ensures (c.in_ok-values.ensures.values w [] Γ Omega whole) in
+    let scope = c.in_ok-context.ensures.scope w (ends_of c.args.maps.now) serves.knows in
+    let whole = known c.args.world.now c.args.maps.now c.interpreter-interpreter.result serves Γ c.args.formula.now Omega c.requires.formula c.in_ok-context.context scope in
+    let fed = sieves_known c.args.world.now c.args.maps.now c.interpreter-interpreter.result serves Γ c.args.formula.now Omega c.requires.formula c.in_ok-context.context scope
+    c.elements.result c.tuples.result.now c.elements.ensures c.tuples.ensures c.in_ok-values.values c.as_slice.result.now c.as_slice.ensures refl (c.in_ok-values.ensures.values w (ends_of c.args.maps.now) Γ Omega whole) in
     record { stages = IfOk-weaker c.tuples_with_sieves.result _ _ (λ stages is. is w (value w c.args.formula.now) fed ∙ classified_with w Γ c.args.formula.now) c.tuples_with_sieves.ensures }

@@ -1,0 +1,2 @@
+pub mod KeptElements
+pub mod TermObjects
