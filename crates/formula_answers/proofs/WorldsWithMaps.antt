@@ -56,6 +56,9 @@ module _ (w : CountedWorld) (tables : List MapTable) where
   abbrev to : ℕ → Ty
   to m = (table_at tables m).ends.cod
 
+  abbrev elements_of : Ty → ℕ → List Val
+  elements_of T c = elements w.site w.functors T c
+
   -- where the map number m takes an element
   image_there : (m c : ℕ) (v : Val) → m < length tables → c < k.objects → image (world_of w tables) m c v ≡ image_of v (pairs_at w.site w.functors (table_at tables m) c)
   unfolding pairs_of
@@ -63,9 +66,9 @@ module _ (w : CountedWorld) (tables : List MapTable) where
       ap (λ (pairs : List (List (Val × Val))). image_of v (get_or pairs c [])) (get_or-map (pairs_of w.site w.functors) tables m no_table [] low)
       ∙ ap (image_of v) (get_or-map-range_with_len (pairs_at w.site w.functors (table_at tables m)) 0 k.objects c c [] object (omega arith))
 
-  image_at : (m c x : ℕ) → m < length tables → c < k.objects → x < length (elements w.site w.functors (table_at tables m).ends.dom c) →
-      image (world_of w tables) m c (get_or (elements w.site w.functors (table_at tables m).ends.dom c) x Star)
-      ≡ get_or (elements w.site w.functors (table_at tables m).ends.cod c) (get_or (get_or (table_at tables m).rows c []) x 0) Star
+  image_at : (m c x : ℕ) → m < length tables → c < k.objects → x < length (elements_of (from m) c) →
+      image (world_of w tables) m c (get_or (elements_of (from m) c) x Star)
+      ≡ get_or (elements_of (to m) c) (get_or (get_or (table_at tables m).rows c []) x 0) Star
   image_at m c x low object inside = image_there m c _ low object ∙ table_image w.site w.functors (table_at tables m) c x inside
 
   -- a map that is not there
@@ -76,7 +79,7 @@ module _ (w : CountedWorld) (tables : List MapTable) where
   ends_past : (m : ℕ) → length tables ≤ m → (table_at tables m).ends ≡ no_table.ends
   ends_past m past = ap (λ (t : MapTable). t.ends) (get_or_past tables m no_table past)
 
-  star_in : (c : ℕ) → In (elements w.site w.functors One c) Star
+  star_in : (c : ℕ) → In (elements_of One c) Star
   unfolding elements
   star_in c = inl refl
 
@@ -85,30 +88,27 @@ module _ (w : CountedWorld) (tables : List MapTable) where
   restr_star f v = refl
 
   module _ (category : IsCategory w.site.category) (lawful : All (IsFunctor w.site.category) w.functors) (are : AreMapTables w.site w.functors tables) where
-    abbrev els : Ty → ℕ → List Val
-    els T c = elements w.site w.functors T c
-
-    size_is : (T : Ty) (c : ℕ) → c < k.objects → size (TypeFunctor w.site w.functors T) c ≡ length (elements w.site w.functors T c)
+    size_is : (T : Ty) (c : ℕ) → c < k.objects → size (TypeFunctor w.site w.functors T) c ≡ length (elements_of T c)
     size_is T c object = size_numbered k (elements w.site w.functors T) (restr w.site w.functors T) c object
 
-    number_low : (m c x : ℕ) → m < length tables → c < k.objects → x < length (elements w.site w.functors (table_at tables m).ends.dom c) →
-        get_or (get_or (table_at tables m).rows c []) x 0 < length (elements w.site w.functors (table_at tables m).ends.cod c)
+    number_low : (m c x : ℕ) → m < length tables → c < k.objects → x < length (elements_of (from m) c) →
+        get_or (get_or (table_at tables m).rows c []) x 0 < length (elements_of (to m) c)
     number_low m c x low object inside =
         let within = (are m low).natural.within c x object (omega (arith, inside, size_is (from m) c object)) in
         omega (arith, within, size_is (to m) c object)
 
     -- images are elements
-    within_there : (m c : ℕ) (v : Val) → m < length tables → c < k.objects → In (elements w.site w.functors (table_at tables m).ends.dom c) v →
-        In (elements w.site w.functors (table_at tables m).ends.cod c) (image (world_of w tables) m c v)
+    within_there : (m c : ℕ) (v : Val) → m < length tables → c < k.objects → In (elements_of (from m) c) v →
+        In (elements_of (to m) c) (image (world_of w tables) m c v)
     within_there m c v low object i =
-        let place = at_place_of (els (from m) c) v Star i in
-        let x = place_of v (els (from m) c) in
+        let place = at_place_of (elements_of (from m) c) v Star i in
+        let x = place_of v (elements_of (from m) c) in
         let at = ap (image (world_of w tables) m c) (sym place.1) ∙ image_at m c x low object place.0 in
-        subst (In (els (to m) c)) (sym at) (In_at (els (to m) c) (get_or (get_or (table_at tables m).rows c []) x 0) Star (number_low m c x low object place.0))
+        subst (In (elements_of (to m) c)) (sym at) (In_at (elements_of (to m) c) (get_or (get_or (table_at tables m).rows c []) x 0) Star (number_low m c x low object place.0))
 
     -- and restrict as elements do
-    natural_there : (m c f : ℕ) (v : Val) → m < length tables → IsInto w.site.category c f → In (elements w.site w.functors (table_at tables m).ends.dom c) v →
-        image (world_of w tables) m (dom w.site.category f) (restr w.site w.functors (table_at tables m).ends.dom f v) ≡ restr w.site w.functors (table_at tables m).ends.cod f (image (world_of w tables) m c v)
+    natural_there : (m c f : ℕ) (v : Val) → m < length tables → IsInto w.site.category c f → In (elements_of (from m) c) v →
+        image (world_of w tables) m (dom w.site.category f) (restr w.site w.functors (from m) f v) ≡ restr w.site w.functors (to m) f (image (world_of w tables) m c v)
     natural_there m c f v low into i =
         let ends = category.ends f into.0 in
         let object : c < k.objects = subst (λ d. d < k.objects) into.1 ends.1 in
@@ -116,34 +116,34 @@ module _ (w : CountedWorld) (tables : List MapTable) where
         let S = from m in
         let T = to m in
         let rows = (table_at tables m).rows in
-        let place = at_place_of (els S c) v Star i in
-        let x = place_of v (els S c) in
+        let place = at_place_of (elements_of S c) v Star i in
+        let x = place_of v (elements_of S c) in
         let F = TypeFunctor w.site w.functors S in
         let y = act F f x in
         let inside : x < size F c = omega (arith, place.0, size_is S c object) in
         let moved : y < size F d = (types_are_functors w.site w.functors category lawful S).within c f x into inside in
-        let moved' : y < length (els S d) = omega (arith, moved, size_is S d ends.0) in
-        let restricted : restr w.site w.functors S f v ≡ get_or (els S d) y Star =
+        let moved' : y < length (elements_of S d) = omega (arith, moved, size_is S d ends.0) in
+        let restricted : restr w.site w.functors S f v ≡ get_or (elements_of S d) y Star =
         ap (restr w.site w.functors S f) (sym place.1)
         ∙ sym (value_act k (elements w.site w.functors S) (restr w.site w.functors S) category (types_presheaf w.site w.functors category lawful S) (Distinct-elements w.site w.functors S) c f x Star into place.0) in
         let j = get_or (get_or rows c []) x 0 in
-        let image_is : image (world_of w tables) m c v ≡ get_or (els T c) j Star = ap (image (world_of w tables) m c) (sym place.1) ∙ image_at m c x low object place.0 in
+        let image_is : image (world_of w tables) m c v ≡ get_or (elements_of T c) j Star = ap (image (world_of w tables) m c) (sym place.1) ∙ image_at m c x low object place.0 in
         ap (image (world_of w tables) m d) restricted
         ∙ image_at m d y low ends.0 moved'
-        ∙ ap (λ n. get_or (els T d) n Star) ((are m low).natural.commutes c f x into inside)
+        ∙ ap (λ n. get_or (elements_of T d) n Star) ((are m low).natural.commutes c f x into inside)
         ∙ value_act k (elements w.site w.functors T) (restr w.site w.functors T) category (types_presheaf w.site w.functors category lawful T) (Distinct-elements w.site w.functors T) c f j Star into (number_low m c x low object place.0)
         ∙ sym (ap (restr w.site w.functors T f) image_is)
 
-    within_all : (m c : ℕ) (v : Val) → c < k.objects → In (elements w.site w.functors (table_at tables m).ends.dom c) v → In (elements w.site w.functors (table_at tables m).ends.cod c) (image (world_of w tables) m c v)
+    within_all : (m c : ℕ) (v : Val) → c < k.objects → In (elements_of (from m) c) v → In (elements_of (to m) c) (image (world_of w tables) m c v)
     within_all m c v object i = elim (cases_lt m (length tables)) [
       | inl low ↦ within_there m c v low object i
       | inr past ↦
           subst (λ (e : MapTy). In (elements w.site w.functors e.cod c) (image (world_of w tables) m c v)) (sym (ends_past m past))
-          (subst (In (elements w.site w.functors One c)) (sym (image_past m c v past)) (star_in c))
+          (subst (In (elements_of One c)) (sym (image_past m c v past)) (star_in c))
     ]
 
-    natural_all : (m c f : ℕ) (v : Val) → IsInto w.site.category c f → In (elements w.site w.functors (table_at tables m).ends.dom c) v →
-        image (world_of w tables) m (dom w.site.category f) (restr w.site w.functors (table_at tables m).ends.dom f v) ≡ restr w.site w.functors (table_at tables m).ends.cod f (image (world_of w tables) m c v)
+    natural_all : (m c f : ℕ) (v : Val) → IsInto w.site.category c f → In (elements_of (from m) c) v →
+        image (world_of w tables) m (dom w.site.category f) (restr w.site w.functors (from m) f v) ≡ restr w.site w.functors (to m) f (image (world_of w tables) m c v)
     natural_all m c f v into i = elim (cases_lt m (length tables)) [
       | inl low ↦ natural_there m c f v low into i
       | inr past ↦
@@ -164,7 +164,7 @@ module _ (w : CountedWorld) (tables : List MapTable) where
     }
 
     -- a table lists the images
-    images_listed : (m : ℕ) → m < length tables → AreImages (world_of w tables) m (table_at tables m).ends.dom (table_at tables m).ends.cod (table_at tables m).rows
+    images_listed : (m : ℕ) → m < length tables → AreImages (world_of w tables) m (from m) (to m) (table_at tables m).rows
     images_listed m low =
         let natural = (are m low).natural in
         record {

@@ -7,3 +7,4 @@ pub mod TypePresheaves
 pub mod TrueRows
 pub mod PartNumbers
 pub mod SubobjectTables
+pub mod OneVariable

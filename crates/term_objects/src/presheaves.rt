@@ -1,5 +1,5 @@
 // Types as presheaves of numbers.
-ghost use Rattle.std.specs.Prelude.{◌≡◌, ◌<◌, ◌^◌, ℕ, length, get_or, map, IfOk};
+ghost use Rattle.std.specs.Prelude.{◌≡◌, ◌<◌, ℕ, length, get_or, map, IfOk};
 ghost use Rattle.std.specs.List.{range_with_len};
 ghost use Rattle.finite_lists.specs.Members.{In};
 ghost use Rattle.topos_model.specs.declared.ty.Ty.{Base};
