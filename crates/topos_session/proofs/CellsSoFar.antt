@@ -8,6 +8,7 @@ use Rattle.std.proofs.lemmas.List.Elements.{filter-append}
 use Rattle.finite_lists.specs.Members.{In}
 use Rattle.finite_lists.proofs.Lists.{In-append_left, In-append_right, In-append_cases}
 use Rattle.topos_model.specs.declared.ty.Ty.{Ty}
+use Rattle.topos_model.specs.declared.context.MapTy.{MapTy}
 use Rattle.topos_model.specs.declared.doc.Doc.{Doc}
 use Rattle.topos_model.specs.declared.stmt.Stmt.{Stmt}
 use Rattle.topos_model.specs.topologies.Cover.{Site}
@@ -46,54 +47,58 @@ cells_counted doc so types l one site same =
     alone : (a b c : ℕ) → 1 * a + sum (b ∷ []) + c ≡ a + b + c
     alone a b c = omega arith
 
--- one statement more
-pub types_more : (doc : Doc) (i : ℕ) (stmt : Stmt) → slice_get doc.stmts i ≡ Some stmt → under stmt ≡ 0 → types_under 0 (types_by doc (i + 1)) ≡ types_under 0 (types_by doc i) ++ needs [] stmt
+-- the types that the first statements count, with those of one more
+pub next_types : (doc : Doc) (maps : List MapTy) (i : ℕ) (stmt : Stmt) → slice_get doc.stmts i ≡ Some stmt → types_by doc maps (i + 1) ≡ types_by doc maps i ++ (under stmt, needs maps stmt) ∷ []
+next_types doc maps i stmt next =
+    let counted : Stmt → ℕ × List Ty = λ stmt. (under stmt, needs maps stmt) in
+    ap (map counted) (take_more doc.stmts i stmt (slice_get_within doc.stmts i stmt next) ∙ ap (λ (s : Stmt). take i doc.stmts ++ s ∷ []) (get_or_from_slice_get doc.stmts i stmt stmt next))
+    ∙ map-append counted (take i doc.stmts) (stmt ∷ [])
+
+-- one statement more, with maps of these ends
+pub types_more : (doc : Doc) (maps : List MapTy) (i : ℕ) (stmt : Stmt) → slice_get doc.stmts i ≡ Some stmt → under stmt ≡ 0 → types_under 0 (types_by doc maps (i + 1)) ≡ types_under 0 (types_by doc maps i) ++ needs maps stmt
 unfolding types_under
-types_more doc i stmt next first =
-    let counted : Stmt → ℕ × List Ty = λ stmt. (under stmt, needs [] stmt) in
+types_more doc maps i stmt next first =
+    let counted : Stmt → ℕ × List Ty = λ stmt. (under stmt, needs maps stmt) in
     let types : ℕ × List Ty → List Ty = λ entry. entry.1 in
     let here : ℕ × List Ty → Bool = λ entry. eqb entry.0 0 in
-    let more : take (i + 1) doc.stmts ≡ take i doc.stmts ++ stmt ∷ [] =
-    take_more doc.stmts i stmt (slice_get_within doc.stmts i stmt next) ∙ ap (λ (s : Stmt). take i doc.stmts ++ s ∷ []) (get_or_from_slice_get doc.stmts i stmt stmt next) in
-    ap (λ l. flat_map types (filter here (map counted l))) more
-    ∙ ap (λ l. flat_map types (filter here l)) (map-append counted (take i doc.stmts) (stmt ∷ []))
-    ∙ ap (flat_map types) (filter-append here (map counted (take i doc.stmts)) ((under stmt, needs [] stmt) ∷ []))
-    ∙ flat_map-append types (filter here (map counted (take i doc.stmts))) (filter here ((under stmt, needs [] stmt) ∷ []))
-    ∙ ap (λ l. flat_map types (filter here (map counted (take i doc.stmts))) ++ l) (ap (λ j. flat_map types (filter here ((j, needs [] stmt) ∷ []))) first ∙ append-nil (needs [] stmt))
+    ap (λ l. flat_map types (filter here l)) (next_types doc maps i stmt next)
+    ∙ ap (flat_map types) (filter-append here (map counted (take i doc.stmts)) ((under stmt, needs maps stmt) ∷ []))
+    ∙ flat_map-append types (filter here (map counted (take i doc.stmts))) (filter here ((under stmt, needs maps stmt) ∷ []))
+    ∙ ap (λ l. flat_map types (filter here (map counted (take i doc.stmts))) ++ l) (ap (λ j. flat_map types (filter here ((j, needs maps stmt) ∷ []))) first ∙ append-nil (needs maps stmt))
 
-module _ (doc : Doc) (w : CountedWorld) (i : ℕ) (stmt : Stmt) (next : slice_get doc.stmts i ≡ Some stmt) (first : under stmt ≡ 0) (counted : AreCounted (types_under 0 (types_by doc i)) w) where
+module _ (doc : Doc) (w : CountedWorld) (maps : List MapTy) (i : ℕ) (stmt : Stmt) (next : slice_get doc.stmts i ≡ Some stmt) (first : under stmt ≡ 0) (counted : AreCounted (types_under 0 (types_by doc maps i)) w) where
   abbrev before : List Ty
-  before = types_under 0 (types_by doc i)
+  before = types_under 0 (types_by doc maps i)
 
   abbrev both : List Ty
-  both = before ++ needs [] stmt
+  both = before ++ needs maps stmt
 
   -- the types with those of the statement
-  pub types_with : SameTypes (types_under 0 (types_by doc (i + 1))) (w.types ++ needs [] stmt)
+  pub types_with : SameTypes (types_under 0 (types_by doc maps (i + 1))) (w.types ++ needs maps stmt)
   types_with T u =
-      let e = types_more doc i stmt next first in (
-        λ j. elim (In-append_cases before (needs [] stmt) T (subst (λ l. In l T) e j)) [
-          | inl a ↦ In-append_left w.types (needs [] stmt) T (counted.sealed T a u)
-          | inr b ↦ In-append_right w.types (needs [] stmt) T b
+      let e = types_more doc maps i stmt next first in (
+        λ j. elim (In-append_cases before (needs maps stmt) T (subst (λ l. In l T) e j)) [
+          | inl a ↦ In-append_left w.types (needs maps stmt) T (counted.sealed T a u)
+          | inr b ↦ In-append_right w.types (needs maps stmt) T b
         ],
-        λ j. subst (λ l. In l T) (sym e) (elim (In-append_cases w.types (needs [] stmt) T j) [
-          | inl a ↦ In-append_left before (needs [] stmt) T (counted.only T a)
-          | inr b ↦ In-append_right before (needs [] stmt) T b
+        λ j. subst (λ l. In l T) (sym e) (elim (In-append_cases w.types (needs maps stmt) T j) [
+          | inl a ↦ In-append_left before (needs maps stmt) T (counted.only T a)
+          | inr b ↦ In-append_right before (needs maps stmt) T b
         ]),
       )
 
   -- where these are sealed, exactly those that are counted then are
-  pub counted_next : (mid : CountedWorld) → IsGrownBy (needs [] stmt) w mid → AreCounted (types_under 0 (types_by doc (i + 1))) mid
+  pub counted_next : (mid : CountedWorld) → IsGrownBy (needs maps stmt) w mid → AreCounted (types_under 0 (types_by doc maps (i + 1))) mid
   counted_next mid h =
-      let e = types_more doc i stmt next first in
+      let e = types_more doc maps i stmt next first in
       record {
-        sealed = λ T j u. elim (In-append_cases before (needs [] stmt) T (subst (λ l. In l T) e j)) [
-          | inl a ↦ grown_keeps (needs [] stmt) w mid h.grown T (counted.sealed T a u)
+        sealed = λ T j u. elim (In-append_cases before (needs maps stmt) T (subst (λ l. In l T) e j)) [
+          | inl a ↦ grown_keeps (needs maps stmt) w mid h.grown T (counted.sealed T a u)
           | inr b ↦ h.all T b u
         ];
-        only = λ T j. subst (λ l. In l T) (sym e) (elim (grown_only (needs [] stmt) w mid h.grown T j) [
-          | inl a ↦ In-append_left before (needs [] stmt) T (counted.only T a)
-          | inr b ↦ In-append_right before (needs [] stmt) T b
+        only = λ T j. subst (λ l. In l T) (sym e) (elim (grown_only (needs maps stmt) w mid h.grown T j) [
+          | inl a ↦ In-append_left before (needs maps stmt) T (counted.only T a)
+          | inr b ↦ In-append_right before (needs maps stmt) T b
         ]);
       }
 

@@ -1,6 +1,6 @@
 -- Statements about a formula: why they are refused, what they count, and that they answer.
 use Rattle.std.proofs.Common.{◌≡◌, ℕ, ◌-◌, ◌<◌, ◌≤◌, Bool, true, false, not, ◌&&◌, eqb, inl, inr, List, [], reverse, length, flat_map, is_none, Option, Some, None, Ok, Err, refl, sym, ap, subst, ◌∙◌, arith, drop, get_or, ap₂, ◌+◌, ◌∷◌}
-use Rattle.std.proofs.lemmas.Bool.{cases_lt, cases_Bool, true≢false}
+use Rattle.std.proofs.lemmas.Bool.{cases_lt, cases_Bool, true≢false, eq-eqb, ne_eqb}
 use Rattle.std.proofs.lemmas.List.{append-nil}
 use Rattle.std.proofs.lemmas.List.FromFn.{length-range_with_len, get_or-range_with_len}
 use denote.Hole.Carrier
@@ -14,6 +14,8 @@ use Rattle.topos_model.specs.declared.ty.Ty.{Ty, Base, Omega}
 use Rattle.topos_model.specs.declared.ty.Ty.TheBlock.{hidden-the_row-Ty-0}
 use Rattle.topos_model.specs.declared.term.Term.{Term}
 use Rattle.topos_model.specs.declared.context.Ctx.{Ctx}
+use Rattle.topos_model.specs.declared.context.MapTy.{MapTy}
+use Rattle.topos_model.specs.declared.context.MapTable.{MapTable}
 use Rattle.topos_model.specs.declared.stmt.Stmt.{Stmt}
 use Rattle.topos_model.specs.declared.stmt.Stmt.TheVariants.{Show, Classify, Valid}
 use Rattle.topos_model.specs.declared.answer.Answer.{Answer}
@@ -29,16 +31,16 @@ use Rattle.topos_model.specs.statements.StatementFaults.{formula_fault}
 use Rattle.functor_store.specs.declared.fault.StoreFault.{StoreFault}
 use Rattle.functor_store.specs.declared.fault.StoreFault.TheVariants.{Over, NoMemory as OutOfMemory}
 use Rattle.sealed_functors.specs.Rows.{IsOverExactly}
-use Rattle.sealed_world.specs.SealedWorlds.{CountedWorld, world_cells, cells_with, IsGrownBy}
+use Rattle.sealed_world.specs.SealedWorlds.{CountedWorld, world_cells, cells_with, HasTypes, IsGrownBy}
 use Rattle.sealed_world.proofs.Growing.{not_grown, grown_more, no_more, no_less}
 use Rattle.term_typing.specs.declared.fault.TypeFault.{TypeFault}
 use Rattle.term_typing.specs.declared.fault.TypeFault.TheVariants.{Expected, NotAFunction, NotAPower, NotAPair, NoMemory}
 use Rattle.term_typing.specs.Inferring.{IsFaultOf}
+use Rattle.formula_answers.specs.MapTables.{ends_of}
 use Rattle.topos_session.specs.declared.declarations.Declarations.{Declarations}
 use Rattle.topos_session.specs.declared.stop.Stop.{Stop}
 use Rattle.topos_session.specs.declared.stop.Stop.TheVariants as stop
-use Rattle.topos_session.specs.Ranges.{applies_none, declares, is_formula_in_range}
-use Rattle.topos_session.specs.Built.{is_formula_built}
+use Rattle.topos_session.specs.Ranges.{declares, is_formula_in_range}
 use Rattle.topos_session.specs.Functors.{AreFunctors, functor_at}
 use Rattle.topos_session.specs.Declarations.{AreLawful}
 use Rattle.topos_session.specs.Statements.{no_sheaf_among, formula_refusal, formula_needs, refusal_over, AnswersOver, IsTyped, IsTypeStop, IsSheafStop, IsFormulaSealed, IsFormulaStop, IsAnsweredOver, IsStoppedOver, by_types, type_stop, store_stop}
@@ -106,13 +108,16 @@ module _ (w : CountedWorld) (types : List Ty) where
   unfolding found_from
   found_nowhere n past = first_left-end tested (range_with_len 0 (length w.functors)) n (omega (arith, past, long))
 
-module _ (under : ℕ) (ctx : Ctx) (φ : Term) where
-  -- why a formula is refused
-  pub formula_unbuilt : (w : CountedWorld) → (eqb under 0 && applies_none φ) ≡ false → formula_refusal w under ctx φ ≡ Some NotBuilt
-  unfolding formula_refusal is_formula_built
-  formula_unbuilt w e = rw e refl
+module _ (tables : List MapTable) (under : ℕ) (ctx : Ctx) (φ : Term) where
+  abbrev ends : List MapTy
+  ends = ends_of tables
 
-  pub typing_stops : (fault : TypeFault) → IsFaultOf (typed [] (reverse ctx.types) φ) fault → IsTypeStop ctx φ (type_stop fault)
+  -- why a formula is refused
+  pub formula_unbuilt : (w : CountedWorld) → (under ≡ 0 → ⊥) → formula_refusal w tables under ctx φ ≡ Some NotBuilt
+  unfolding formula_refusal
+  formula_unbuilt w other = rw (ne_eqb under 0 other) refl
+
+  pub typing_stops : (fault : TypeFault) → IsFaultOf (typed (ends_of tables) (reverse ctx.types) φ) fault → IsTypeStop tables ctx φ (type_stop fault)
   unfolding formula_fault
   typing_stops (Expected S T) h = rw h refl
   typing_stops (NotAFunction T) h = rw h refl
@@ -120,86 +125,93 @@ module _ (under : ℕ) (ctx : Ctx) (φ : Term) where
   typing_stops (NotAPair T) h = rw h refl
   typing_stops NoMemory h = tt
 
-  pub no_formula : (T : Ty) → typed [] (reverse ctx.types) φ ≡ Ok T → same_type Omega T ≡ false → formula_fault [] (reverse ctx.types, φ) ≡ Some (ExpectedFault Omega T)
+  pub no_formula : (T : Ty) → typed (ends_of tables) (reverse ctx.types) φ ≡ Ok T → same_type Omega T ≡ false → formula_fault (ends_of tables) (reverse ctx.types, φ) ≡ Some (ExpectedFault Omega T)
   unfolding formula_fault
   no_formula T found other = rw (found, other) refl
 
-  module _ (built : (eqb under 0 && applies_none φ) ≡ true) where
-    -- a fault of its types refuses it
-    pub type_stops : (so : Declarations) (s : Stop) → IsTypeStop ctx φ s → IsFormulaStop under ctx φ so s
-    unfolding formula_refusal is_formula_built
-    type_stops so (stop.Refused fault) h = rw (built, h) refl
-    type_stops so stop.Budget h = absurd h
-    type_stops so stop.NoMemory h = tt
+-- a formula over what is declared, under the first topology
+module _ (so : Declarations) (under : ℕ) (ctx : Ctx) (φ : Term) (first : under ≡ 0) where
+  abbrev needed : List Ty
+  needed = formula_needs so.maps ctx φ
 
-    -- one that has none is refused for a presheaf that is no sheaf alone
-    well_typed : (w : CountedWorld) → typed [] (reverse ctx.types) φ ≡ Ok Omega → formula_refusal w under ctx φ ≡ no_sheaf_among w (formula_needs ctx φ)
-    unfolding formula_refusal is_formula_built formula_fault same_type hidden-the_row-Ty-0 Carrier.hidden
-    well_typed w typing = rw (built, typing) refl
+  -- a fault of its types refuses it
+  pub type_stops : (s : Stop) → IsTypeStop so.maps ctx φ s → IsFormulaStop under ctx φ so s
+  unfolding formula_refusal
+  type_stops (stop.Refused fault) h = rw (eq-eqb under 0 first, h) refl
+  type_stops stop.Budget h = absurd h
+  type_stops stop.NoMemory h = tt
 
-    module _ (so : Declarations) (types : List Ty) (is : IsTyped ctx φ types) where
-      -- the types that are listed cost the same, with their parts
-      same_cost : cells_with so.world (formula_needs ctx φ) ≡ cells_with so.world (flat_map parts types)
-      same_cost =
-          let w = so.world in
-          let more = no_less [] (flat_map parts types) (formula_needs ctx φ) w w (not_grown [] w) (λ T i u. inr ((is.counted T).1 i)) in
-          let less = no_more [] (flat_map parts types) (formula_needs ctx φ) w w (not_grown [] w) (λ T n. absurd n) (λ T i. (is.counted T).0 i) in
-          omega (arith, more, less)
+  -- one that has none is refused for a presheaf that is no sheaf alone
+  well_typed : typed (ends_of so.maps) (reverse ctx.types) φ ≡ Ok Omega → formula_refusal so.world so.maps under ctx φ ≡ no_sheaf_among so.world needed
+  unfolding formula_refusal formula_fault same_type hidden-the_row-Ty-0 Carrier.hidden
+  well_typed typing = rw (eq-eqb under 0 first, typing) refl
 
-      same_growth : (mid : CountedWorld) → IsGrownBy (flat_map parts types) so.world mid → IsGrownBy (formula_needs ctx φ) so.world mid
-      same_growth mid grown = record {
-        grown = grown_more (flat_map parts types) so.world (formula_needs ctx φ) mid (λ T i. (is.counted T).0 i) grown.grown;
-        all = λ T i u. grown.all T ((is.counted T).1 i) u;
-      }
+  module _ (types : List Ty) (is : IsTyped so.maps ctx φ types) where
+    -- the types that are listed cost the same, with their parts
+    same_cost : cells_with so.world needed ≡ cells_with so.world (flat_map parts types)
+    same_cost =
+        let w = so.world in
+        let more = no_less [] (flat_map parts types) needed w w (not_grown [] w) (λ T i u. inr ((is.counted T).1 i)) in
+        let less = no_more [] (flat_map parts types) needed w w (not_grown [] w) (λ T n. absurd n) (λ T i. (is.counted T).0 i) in
+        omega (arith, more, less)
 
-      same_sheaves : (w : CountedWorld) → no_sheaf_among w (formula_needs ctx φ) ≡ no_sheaf_among w (flat_map parts types)
-      same_sheaves w = among_same w (formula_needs ctx φ) (flat_map parts types) (λ T i. (is.counted T).1 i) (λ T i. (is.counted T).0 i)
+    same_growth : (mid : CountedWorld) → IsGrownBy (flat_map parts types) so.world mid → IsGrownBy needed so.world mid
+    same_growth mid grown = record {
+      grown = grown_more (flat_map parts types) so.world needed mid (λ T i. (is.counted T).0 i) grown.grown;
+      all = λ T i u. grown.all T ((is.counted T).1 i) u;
+    }
 
-      pub sheaf_stops : (s : Stop) → IsSheafStop so.world (flat_map parts types) s → IsFormulaStop under ctx φ so s
-      sheaf_stops (stop.Refused fault) h = well_typed so.world is.formula ∙ same_sheaves so.world ∙ h
-      sheaf_stops stop.Budget h = absurd h
-      sheaf_stops stop.NoMemory h = tt
+    same_sheaves : no_sheaf_among so.world needed ≡ no_sheaf_among so.world (flat_map parts types)
+    same_sheaves = among_same so.world needed (flat_map parts types) (λ T i. (is.counted T).1 i) (λ T i. (is.counted T).0 i)
 
-      module _ (sheaves : no_sheaf_among so.world (flat_map parts types) ≡ None) where
-        accepted_here : formula_refusal so.world under ctx φ ≡ None
-        accepted_here = well_typed so.world is.formula ∙ same_sheaves so.world ∙ sheaves
+    pub sheaf_stops : (s : Stop) → IsSheafStop so.world (flat_map parts types) s → IsFormulaStop under ctx φ so s
+    sheaf_stops (stop.Refused fault) h = well_typed is.formula ∙ same_sheaves ∙ h
+    sheaf_stops stop.Budget h = absurd h
+    sheaf_stops stop.NoMemory h = tt
 
-        pub types_over : (fault : StoreFault) → IsOverExactly {A = Unit {0}} (Err fault) (so.world.budget < cells_with so.world (flat_map parts types)) → IsFormulaStop under ctx φ so (store_stop fault)
-        types_over Over over = (accepted_here, omega (arith, over, same_cost))
-        types_over OutOfMemory over = tt
+    module _ (sheaves : no_sheaf_among so.world (flat_map parts types) ≡ None) where
+      accepted_here : formula_refusal so.world so.maps under ctx φ ≡ None
+      accepted_here = well_typed is.formula ∙ same_sheaves ∙ sheaves
 
-        module _ (l : ℕ) (range : is_formula_in_range (length so.world.functors) l ctx φ ≡ true) (none : applies_none φ ≡ true) where
-          pub types_named : (n : ℕ) → In (flat_map parts types) (Base n) → n < length so.world.functors
-          types_named n i = names_declared (length so.world.functors) l ctx φ range none n ((is.counted (Base n)).0 i)
+      pub types_over : (fault : StoreFault) → IsOverExactly {A = Unit {0}} (Err fault) (so.world.budget < cells_with so.world (flat_map parts types)) → IsFormulaStop under ctx φ so (store_stop fault)
+      types_over Over over = (accepted_here, omega (arith, over, same_cost))
+      types_over OutOfMemory over = tt
 
-          pub formula_sealed : (mid : Declarations) → mid.maps ≡ so.maps → IsGrownBy (flat_map parts types) so.world mid.world → (so.world.budget < cells_with so.world (flat_map parts types) → ⊥)
-              → world_cells mid.world ≤ mid.world.budget → IsCategory so.world.site.category → IsTopology so.world.site → AreFunctors so.world.site.category so.world.functors
-              → IsFormulaSealed under ctx φ so mid
-          formula_sealed mid maps grown fit within lawful top are =
-              let by = same_growth mid.world grown in
-              let site : mid.world.site ≡ so.world.site = ap (λ (w : CountedWorld). w.site) by.grown.is in
-              let functors : mid.world.functors ≡ so.world.functors = ap (λ (w : CountedWorld). w.functors) by.grown.is in
-              let budget : mid.world.budget ≡ so.world.budget = ap (λ (w : CountedWorld). w.budget) by.grown.is in
-              let named = names_declared (length so.world.functors) l ctx φ range none in
-              record {
-                accepted = accepted_here;
-                maps = maps;
-                types = by;
-                types_fit = not_over same_cost fit;
-                within = omega (arith, within, budget);
-                formula = record {
-                  typing = is.formula;
-                  named = λ n i. subst (λ (fs : List Presheaf). n < length fs) (sym functors) (named n i);
-                  counted = by.all;
-                  sheaves = rw (site, functors) (needs_sheaves so.world.site lawful top so.world.functors are [] (reverse ctx.types) φ named (found_none so.world (formula_needs ctx φ) (same_sheaves so.world ∙ sheaves)));
-                };
-              }
-            where
-              not_over : {a b c : ℕ} → a ≡ b → (c < b → ⊥) → a ≤ c
-              not_over {a} {b} {c} e h = elim (cases_lt c b) [ inl over ↦ absurd (h over) | inr fits ↦ omega (arith, fits, e) ]
+      module _ (range : is_formula_in_range (length so.world.functors) (length so.maps) ctx φ ≡ true) (k : Category) (lawful : AreLawful k so) where
+        named : (n : ℕ) → In needed (Base n) → n < length so.world.functors
+        named n i = names_declared so.world.site so.world.functors so.maps lawful.maps ctx φ range n i
+
+        pub types_named : (n : ℕ) → In (flat_map parts types) (Base n) → n < length so.world.functors
+        types_named n i = named n ((is.counted (Base n)).0 i)
+
+        pub formula_sealed : (mid : Declarations) → mid.maps ≡ so.maps → IsGrownBy (flat_map parts types) so.world mid.world → (so.world.budget < cells_with so.world (flat_map parts types) → ⊥)
+            → world_cells mid.world ≤ mid.world.budget → IsCategory so.world.site.category → IsTopology so.world.site → IsFormulaSealed under ctx φ so mid
+        formula_sealed mid maps grown fit within category top =
+            let by = same_growth mid.world grown in
+            let site : mid.world.site ≡ so.world.site = ap (λ (w : CountedWorld). w.site) by.grown.is in
+            let functors : mid.world.functors ≡ so.world.functors = ap (λ (w : CountedWorld). w.functors) by.grown.is in
+            let budget : mid.world.budget ≡ so.world.budget = ap (λ (w : CountedWorld). w.budget) by.grown.is in
+            let are : AreFunctors so.world.site.category so.world.functors = subst (λ k. AreFunctors k so.world.functors) (sym lawful.category) lawful.functors in
+            record {
+              accepted = accepted_here;
+              maps = maps;
+              types = by;
+              types_fit = not_over same_cost fit;
+              within = omega (arith, within, budget);
+              formula = record {
+                maps = rw (site, functors, maps) lawful.maps;
+                typing = rw maps is.formula;
+                named = λ n i. subst (λ (fs : List Presheaf). n < length fs) (sym functors) (named n (subst (λ (m : List MapTable). In (formula_needs m ctx φ) (Base n)) maps i));
+                counted = subst (λ (m : List MapTable). HasTypes (formula_needs m ctx φ) mid.world) (sym maps) by.all;
+                sheaves = rw (site, functors, maps) (needs_sheaves so.world.site category top so.world.functors are (ends_of so.maps) (reverse ctx.types) φ named (found_none so.world needed (same_sheaves ∙ sheaves)));
+              };
+            }
+          where
+            not_over : {a b c : ℕ} → a ≡ b → (c < b → ⊥) → a ≤ c
+            not_over {a} {b} {c} e h = elim (cases_lt c b) [ inl over ↦ absurd (h over) | inr fits ↦ omega (arith, fits, e) ]
 
 -- a statement about the formula
-module _ (k : Category) (so : Declarations) (under : ℕ) (ctx : Ctx) (φ : Term) (stmt : Stmt) (refusal_is : refusal_over k so stmt ≡ formula_refusal so.world under ctx φ) (needs_are : needs [] stmt ≡ formula_needs ctx φ)
+module _ (k : Category) (so : Declarations) (under : ℕ) (ctx : Ctx) (φ : Term) (stmt : Stmt) (refusal_is : refusal_over k so stmt ≡ formula_refusal so.world so.maps under ctx φ) (needs_are : needs (ends_of so.maps) stmt ≡ formula_needs so.maps ctx φ)
     (none : declares stmt ≡ Some (0, 0)) where
   pub formula_stopped : (s : Stop) → IsFormulaStop under ctx φ so s → IsStoppedOver k so stmt s
   formula_stopped (stop.Refused fault) h = refusal_is ∙ h
@@ -216,10 +228,10 @@ module _ (k : Category) (so : Declarations) (under : ℕ) (ctx : Ctx) (φ : Term
         types_fit = subst (λ l. cells_with so.world l ≤ so.world.budget) (sym needs_are) h.types_fit;
         answers = answers;
         within = h.within;
-        lawful = lawful_sealed k so lawful mid functors h.maps;
+        lawful = lawful_sealed k so lawful mid (ap (λ (w : CountedWorld). w.site) h.types.grown.is) functors h.maps;
         declared = none ∙ counts (length mid.world.functors) (length so.world.functors) (length mid.maps) (length so.maps) (ap length functors) (ap length h.maps);
         functors = let e = ap length functors in omega (arith, e);
-        maps = let e = ap length h.maps in omega (arith, e);
+        maps = ([], h.maps ∙ sym (append-nil so.maps));
         kept = (ap (λ (w : CountedWorld). w.site) h.types.grown.is, refl, ap (λ (w : CountedWorld). w.budget) h.types.grown.is);
       }
     where
@@ -230,14 +242,14 @@ module _ (k : Category) (so : Declarations) (under : ℕ) (ctx : Ctx) (φ : Term
           same x y p q = rw (sym p, sym q) refl
 
 -- what each of the three counts
-pub needs-Show : (under : ℕ) (ctx : Ctx) (φ : Term) → needs [] (Show under ctx φ) ≡ formula_needs ctx φ
+pub needs-Show : (tables : List MapTable) (under : ℕ) (ctx : Ctx) (φ : Term) → needs (ends_of tables) (Show under ctx φ) ≡ formula_needs tables ctx φ
 unfolding needs types_of terms_of
-needs-Show under ctx φ = append-nil (formula_needs ctx φ)
+needs-Show tables under ctx φ = append-nil (formula_needs tables ctx φ)
 
-pub needs-Classify : (under : ℕ) (ctx : Ctx) (φ : Term) → needs [] (Classify under ctx φ) ≡ formula_needs ctx φ
+pub needs-Classify : (tables : List MapTable) (under : ℕ) (ctx : Ctx) (φ : Term) → needs (ends_of tables) (Classify under ctx φ) ≡ formula_needs tables ctx φ
 unfolding needs types_of terms_of
-needs-Classify under ctx φ = append-nil (formula_needs ctx φ)
+needs-Classify tables under ctx φ = append-nil (formula_needs tables ctx φ)
 
-pub needs-Valid : (under : ℕ) (ctx : Ctx) (φ : Term) → needs [] (Valid under ctx φ) ≡ formula_needs ctx φ
+pub needs-Valid : (tables : List MapTable) (under : ℕ) (ctx : Ctx) (φ : Term) → needs (ends_of tables) (Valid under ctx φ) ≡ formula_needs tables ctx φ
 unfolding needs types_of terms_of
-needs-Valid under ctx φ = append-nil (formula_needs ctx φ)
+needs-Valid tables under ctx φ = append-nil (formula_needs tables ctx φ)

@@ -1,8 +1,8 @@
--- Formulas that apply no map: what they mean and count is the same whatever maps are declared; and where the presheaves that they name are sheaves, so are all their types.
-use Rattle.std.proofs.Common.{◌≡◌, ℕ, zero, suc, ◌<◌, Bool, true, false, not, inl, inr, List, [], ◌∷◌, ◌++◌, map, filter, length, reverse, None, Ok, refl, sym, ap, ap₂, subst, slice_index_or, arith, is_none, ◌&&◌, Option, Some}
-use Rattle.std.specs.List.{All, flat_map, list_any, range_with_len}
+-- Formulas over declared maps: what they count is the same with more maps; and where the presheaves that they name are sheaves, so are all their types.
+use Rattle.std.proofs.Common.{◌≡◌, ℕ, zero, suc, ◌<◌, Bool, true, false, not, inl, inr, List, [], ◌∷◌, ◌++◌, length, reverse, None, refl, sym, ap, subst, slice_index_or, arith, is_none, ◌&&◌, Option, Some}
+use Rattle.std.specs.List.{All, flat_map, list_any, list_all, range_with_len}
 use Rattle.std.proofs.lemmas.Bool.{and_parts, eq-eqb}
-use Rattle.std.proofs.lemmas.List.{reverse-append}
+use Rattle.std.proofs.lemmas.List.{reverse-append, length-map}
 use Rattle.finite_lists.specs.Members.{In}
 use Rattle.finite_lists.specs.First.{some_if}
 use Rattle.finite_lists.proofs.DistinctLists.{In-range}
@@ -12,73 +12,27 @@ use denote.Hole.Carrier
 use Rattle.topos_model.specs.declared.ty.Ty.TheBlock.{hidden-the_row-Ty-0}
 use Rattle.finite_lists.proofs.Lists.{all_each, each_all, some_any, In-append_left, In-append_right, In-append_cases, In-flat_map, In-flat_map_from}
 use Rattle.topos_model.specs.declared.ty.Ty.{Ty, Base, One, Omega, Two', Pow', Fun', more_of-Ty as one, end_of-Ty as last}
-use Rattle.topos_model.specs.declared.term.Term.{Term, Pair', Fst', Snd', App', Eval', Lam', Compr', Eq', Member', And', Or', Implies', Not', Forall', Exists', Unique', more_of-Term as only, end_of-Term as end}
+use Rattle.topos_model.specs.declared.term.Term.{Term}
 use Rattle.topos_model.specs.declared.context.Ctx.{Ctx}
 use Rattle.topos_model.specs.declared.context.MapTy.{MapTy}
+use Rattle.topos_model.specs.declared.context.MapTable.{MapTable}
 use Rattle.topos_model.specs.declared.stmt.Stmt.{Stmt}
 use Rattle.topos_model.specs.declared.stmt.Stmt.TheVariants.{Presheaf as PresheafStmt, Map, Product, Coproduct, Equalizer, Coequalizer, Pullback, Pushout, Image, Empty, Sheaf, Hom, Show, Classify, Valid}
-use Rattle.topos_model.specs.declared.value.Val.{Val}
 use Rattle.topos_model.specs.topologies.Cover.{Site}
 use Rattle.topos_model.specs.topologies.Sheaves.{IsSheaf, OfSheaves, sheaf_fault}
 use Rattle.topos_model.specs.Laws.{IsCategory, IsTopology}
 use Rattle.topos_model.specs.types.Types.{Presheaf, functor}
-use Rattle.topos_model.specs.formulas.Typing.{typed, formula}
-use Rattle.topos_model.specs.formulas.Forcing.{World, Assigned, Meaning, meaning, values, tuples, shown}
-use Rattle.topos_model.specs.statements.Answers.{tuple_of, unforced, classified}
-use Rattle.topos_model.specs.types.Values.{arrows_of}
+use Rattle.topos_model.specs.formulas.Typing.{typed}
 use Rattle.topos_model.specs.statements.Needs.{parts, found, product, is_functor, first_no_sheaf, subterms, term_needs, terms_of, types_of, needs}
-use Rattle.topos_model.specs.statements.StatementFaults.{applied, formula_fault, fault_of}
 use Rattle.term_ranges.specs.Ranges.{is_type_in_range, is_term_in_range}
-use Rattle.term_ranges.proofs.StableTerms.{typed_stable, needs_stable}
+use Rattle.term_ranges.specs.RangeLaws.{are_ends_in_range}
+use Rattle.term_ranges.proofs.StableTerms.{needs_stable}
 use Rattle.term_ranges.proofs.NamedTypes.{names_in_range}
-use Rattle.term_ranges.proofs.StableMeanings.{meaning_stable}
 use Rattle.sheaf_test.proofs.LeastCoverFamilies.{faultless_sheaf}
-use Rattle.topos_session.specs.Ranges.{applies_none, is_formula_in_range, is_in_range}
-use Rattle.topos_session.specs.Built.{is_formula_built, is_built}
+use Rattle.formula_answers.specs.MapTables.{ends_of, AreMapTables}
+use Rattle.topos_session.specs.Ranges.{is_formula_in_range, is_in_range}
+use Rattle.topos_session.specs.Built.{is_built}
 use Rattle.topos_session.specs.Functors.{AreFunctors, functor_at}
-
--- where no map is applied, no map has to be declared
-module _ (n l : ℕ) where
-  pub closed : (t : Term) → is_term_in_range n l t ≡ true → applies_none t ≡ true → is_term_in_range n 0 t ≡ true
-  unfolding is_term_in_range applies_none
-  closed (Pair' _ (only t end) _ (only u end)) r a = let (p, q) = and_parts _ _ r in let (x, y) = and_parts _ _ a in rw (closed t p x, closed u q y) refl
-  closed (Fst' _ (only t end)) r a = closed t r a
-  closed (Snd' _ (only t end)) r a = closed t r a
-  closed (App' m _ (only t end)) r a = cc
-  closed (Eval' _ (only t end) _ (only u end)) r a = let (p, q) = and_parts _ _ r in let (x, y) = and_parts _ _ a in rw (closed t p x, closed u q y) refl
-  closed (Lam' T _ (only t end)) r a = let (p, q) = and_parts (is_type_in_range n T) (is_term_in_range n l t) r in rw (p, closed t q a) refl
-  closed (Compr' T _ (only t end)) r a = let (p, q) = and_parts (is_type_in_range n T) (is_term_in_range n l t) r in rw (p, closed t q a) refl
-  closed (Eq' _ (only t end) _ (only u end)) r a = let (p, q) = and_parts _ _ r in let (x, y) = and_parts _ _ a in rw (closed t p x, closed u q y) refl
-  closed (Member' _ (only t end) _ (only u end)) r a = let (p, q) = and_parts _ _ r in let (x, y) = and_parts _ _ a in rw (closed t p x, closed u q y) refl
-  closed (And' _ (only t end) _ (only u end)) r a = let (p, q) = and_parts _ _ r in let (x, y) = and_parts _ _ a in rw (closed t p x, closed u q y) refl
-  closed (Or' _ (only t end) _ (only u end)) r a = let (p, q) = and_parts _ _ r in let (x, y) = and_parts _ _ a in rw (closed t p x, closed u q y) refl
-  closed (Implies' _ (only t end) _ (only u end)) r a = let (p, q) = and_parts _ _ r in let (x, y) = and_parts _ _ a in rw (closed t p x, closed u q y) refl
-  closed (Not' _ (only t end)) r a = closed t r a
-  closed (Forall' T _ (only t end)) r a = let (p, q) = and_parts (is_type_in_range n T) (is_term_in_range n l t) r in rw (p, closed t q a) refl
-  closed (Exists' T _ (only t end)) r a = let (p, q) = and_parts (is_type_in_range n T) (is_term_in_range n l t) r in rw (p, closed t q a) refl
-  closed (Unique' T _ (only t end)) r a = let (p, q) = and_parts (is_type_in_range n T) (is_term_in_range n l t) r in rw (p, closed t q a) refl
-  closed _ r a = refl
-
--- it applies none
-pub applied_none : (t : Term) → applies_none t ≡ true → applied t ≡ []
-unfolding applies_none applied
-applied_none (Pair' _ (only t end) _ (only u end)) a = let (x, y) = and_parts _ _ a in rw (applied_none t x, applied_none u y) refl
-applied_none (Fst' _ (only t end)) a = applied_none t a
-applied_none (Snd' _ (only t end)) a = applied_none t a
-applied_none (App' m _ (only t end)) a = cc
-applied_none (Eval' _ (only t end) _ (only u end)) a = let (x, y) = and_parts _ _ a in rw (applied_none t x, applied_none u y) refl
-applied_none (Lam' T _ (only t end)) a = applied_none t a
-applied_none (Compr' T _ (only t end)) a = applied_none t a
-applied_none (Eq' _ (only t end) _ (only u end)) a = let (x, y) = and_parts _ _ a in rw (applied_none t x, applied_none u y) refl
-applied_none (Member' _ (only t end) _ (only u end)) a = let (x, y) = and_parts _ _ a in rw (applied_none t x, applied_none u y) refl
-applied_none (And' _ (only t end) _ (only u end)) a = let (x, y) = and_parts _ _ a in rw (applied_none t x, applied_none u y) refl
-applied_none (Or' _ (only t end) _ (only u end)) a = let (x, y) = and_parts _ _ a in rw (applied_none t x, applied_none u y) refl
-applied_none (Implies' _ (only t end) _ (only u end)) a = let (x, y) = and_parts _ _ a in rw (applied_none t x, applied_none u y) refl
-applied_none (Not' _ (only t end)) a = applied_none t a
-applied_none (Forall' T _ (only t end)) a = applied_none t a
-applied_none (Exists' T _ (only t end)) a = applied_none t a
-applied_none (Unique' T _ (only t end)) a = applied_none t a
-applied_none _ a = refl
 
 pub In-reverse : {A : Type 0} (xs : List A) (x : A) → In (reverse xs) x → In xs x
 In-reverse [] x i = i
@@ -88,59 +42,23 @@ In-reverse (y ∷ xs) x i =
       | inr r ↦ elim r [ inl e ↦ inl e | inr none ↦ absurd none ]
     ]
 
--- a formula over a context, both in range, and without maps
-module _ (n l : ℕ) (ctx : Ctx) (φ : Term) (range : is_formula_in_range n l ctx φ ≡ true) (none : applies_none φ ≡ true) where
-  abbrev Γ : List Ty
-  Γ = reverse ctx.types
+-- the ends of lawful tables are in range
+module _ (s : Site) (functors : List Presheaf) where
+  ends_in_range : (tables : List MapTable) → AreMapTables s functors tables → list_all (are_ends_in_range (length functors)) (ends_of tables) ≡ true
+  ends_in_range [] are = refl
+  ends_in_range (m ∷ tables) are =
+      let first = are 0 (omega arith) in
+      rw (first.domain, first.codomain, ends_in_range tables (λ n low. are (suc n) (omega (arith, low)))) refl
 
-  in_range : is_term_in_range n 0 φ ≡ true
+  -- the presheaves that a formula over a context needs, both in range, are declared
+  pub names_declared : (tables : List MapTable) → AreMapTables s functors tables → (ctx : Ctx) (φ : Term) → is_formula_in_range (length functors) (length tables) ctx φ ≡ true →
+      (m : ℕ) → In (term_needs (ends_of tables) (reverse ctx.types) φ) (Base m) → m < length functors
   unfolding is_formula_in_range
-  in_range = closed n l φ (and_parts _ _ range).1 none
-
-  pub same_typing : (maps : List MapTy) → typed maps Γ φ ≡ typed [] Γ φ
-  same_typing maps = typed_stable n [] maps Γ φ in_range
-
-  pub same_fault : (maps : List MapTy) → formula_fault maps (Γ, φ) ≡ formula_fault [] (Γ, φ)
-  unfolding formula_fault
-  same_fault maps = ap (λ r. fault_of (formula r (Ok Omega))) (same_typing maps)
-
-  pub same_needs : (maps : List MapTy) → term_needs maps Γ φ ≡ term_needs [] Γ φ
-  same_needs maps = needs_stable n [] maps Γ φ in_range
-
-  pub same_meaning : (s : Site) (functors : List Presheaf) (maps : List (List (List (Val × Val)))) →
-      meaning (record { site = s; functors = functors; maps = maps }) φ ≡ meaning (record { site = s; functors = functors; maps = [] }) φ
-  same_meaning s functors maps = meaning_stable n (record { site = s; functors = functors; maps = [] }) maps φ in_range
-
-  pub names_declared : (m : ℕ) → In (term_needs [] Γ φ) (Base m) → m < n
-  unfolding is_formula_in_range
-  names_declared m i =
-      names_in_range n [] refl Γ φ in_range
-      (each_all (is_type_in_range n) Γ (λ T j. all_each (is_type_in_range n) ctx.types T (and_parts _ _ range).0 (In-reverse ctx.types T j))) m i
-
-  -- the tuples, and those for which it is forced or not, are the same with maps and without
-  module _ (s : Site) (functors : List Presheaf) (maps : List (List (List (Val × Val)))) where
-    abbrev with : World
-    with = record { site = s; functors = functors; maps = maps }
-
-    abbrev without : World
-    without = record { site = s; functors = functors; maps = [] }
-
-    same_tuples : (Δ : List Ty) (c : ℕ) → tuples with Δ c ≡ tuples without Δ c
-    unfolding tuples
-    same_tuples [] c = refl
-    same_tuples (T ∷ Δ) c = ap (flat_map (λ a. map (λ v. (T, v) ∷ a) (values without T c))) (same_tuples Δ c)
-
-    pub same_shown : (c : ℕ) → shown with Γ φ c ≡ shown without Γ φ c
-    unfolding shown
-    same_shown c = ap₂ (λ (m : Meaning) (l : List Assigned). filter (m.forces c) l) (same_meaning s functors maps) (same_tuples Γ c)
-
-    pub same_unforced : (c : ℕ) → unforced with Γ φ c ≡ unforced without Γ φ c
-    unfolding unforced
-    same_unforced c = ap₂ (λ (m : Meaning) (l : List Assigned). filter (λ a. not (m.forces c a)) l) (same_meaning s functors maps) (same_tuples Γ c)
-
-    pub same_classified : (c : ℕ) → classified with Γ φ c ≡ classified without Γ φ c
-    unfolding classified
-    same_classified c = ap₂ (λ (m : Meaning) (l : List Assigned). map (λ a. (tuple_of a, arrows_of (m.value c a))) l) (same_meaning s functors maps) (same_tuples Γ c)
+  names_declared tables are ctx φ range m i =
+      let n = length functors in
+      names_in_range n (ends_of tables) (ends_in_range tables are) (reverse ctx.types) φ
+      (subst (λ l. is_term_in_range n l φ ≡ true) (sym (length-map tables (λ m. m.ends))) (and_parts _ _ range).1)
+      (each_all (is_type_in_range n) (reverse ctx.types) (λ T j. all_each (is_type_in_range n) ctx.types T (and_parts _ _ range).0 (In-reverse ctx.types T j))) m i
 
 -- a type is of sheaves where the presheaves that it names are sheaves
 module _ (s : Site) (functors : List Presheaf) where
@@ -222,22 +140,27 @@ module _ (s : Site) (lawful : IsCategory s.category) (top : IsTopology s) (funct
   pub needs_sheaves : All (OfSheaves s functors) (term_needs maps Γ t)
   needs_sheaves = All-members (OfSheaves s functors) (term_needs maps Γ t) (λ T i. of_sheaves s functors T (λ m j. each_sheaf m (needed_part maps Γ t T (Base m) i j)))
 
--- what a statement counts does not depend on the maps
-pub needs_same : (maps : List MapTy) (objects : ℕ) (ends : List (ℕ × ℕ)) (n l : ℕ) (stmt : Stmt) → is_in_range objects ends n l stmt ≡ true → is_built stmt ≡ true → needs maps stmt ≡ needs [] stmt
-unfolding needs types_of terms_of is_in_range is_built is_formula_built
-needs_same maps objects ends n l (Show under ctx φ) range built = ap (λ l. l ++ []) (same_needs n l ctx φ range (and_parts _ _ built).1 maps)
-needs_same maps objects ends n l (Classify under ctx φ) range built = ap (λ l. l ++ []) (same_needs n l ctx φ range (and_parts _ _ built).1 maps)
-needs_same maps objects ends n l (Valid under ctx φ) range built = ap (λ l. l ++ []) (same_needs n l ctx φ range (and_parts _ _ built).1 maps)
-needs_same maps objects ends n l (PresheafStmt functor raw) range built = refl
-needs_same maps objects ends n l (Map m x y raw) range built = refl
-needs_same maps objects ends n l (Product x y z p q) range built = refl
-needs_same maps objects ends n l (Coproduct x y z p q) range built = refl
-needs_same maps objects ends n l (Equalizer m m' z i) range built = refl
-needs_same maps objects ends n l (Coequalizer m m' z i) range built = refl
-needs_same maps objects ends n l (Pullback m m' z p q) range built = refl
-needs_same maps objects ends n l (Pushout m m' z p q) range built = refl
-needs_same maps objects ends n l (Image m z e j) range built = refl
-needs_same maps objects ends n l (Empty z) range built = refl
-needs_same maps objects ends n l (Sheaf under x) range built = refl
-needs_same maps objects ends n l (Hom x y) range built = refl
-needs_same maps objects ends n l _ range built = cc
+-- a formula in range counts the same with more maps
+formula_stable : (maps more : List MapTy) (n : ℕ) (ctx : Ctx) (φ : Term) → is_formula_in_range n (length maps) ctx φ ≡ true → (term_needs (maps ++ more) (reverse ctx.types) φ ++ []) ≡ (term_needs maps (reverse ctx.types) φ ++ [])
+unfolding is_formula_in_range
+formula_stable maps more n ctx φ range = ap (λ l. l ++ []) (needs_stable n maps more (reverse ctx.types) φ (and_parts _ _ range).1)
+
+-- so does each statement that is run
+pub needs_settled : (maps more : List MapTy) (objects : ℕ) (ends : List (ℕ × ℕ)) (n : ℕ) (stmt : Stmt) → is_in_range objects ends n (length maps) stmt ≡ true → is_built stmt ≡ true → needs (maps ++ more) stmt ≡ needs maps stmt
+unfolding needs types_of terms_of is_in_range is_built
+needs_settled maps more objects ends n (Show under ctx φ) range built = formula_stable maps more n ctx φ range
+needs_settled maps more objects ends n (Classify under ctx φ) range built = formula_stable maps more n ctx φ range
+needs_settled maps more objects ends n (Valid under ctx φ) range built = formula_stable maps more n ctx φ range
+needs_settled maps more objects ends n (PresheafStmt functor raw) range built = refl
+needs_settled maps more objects ends n (Map m x y raw) range built = refl
+needs_settled maps more objects ends n (Product x y z p q) range built = refl
+needs_settled maps more objects ends n (Coproduct x y z p q) range built = refl
+needs_settled maps more objects ends n (Equalizer m m' z i) range built = refl
+needs_settled maps more objects ends n (Coequalizer m m' z i) range built = refl
+needs_settled maps more objects ends n (Pullback m m' z p q) range built = refl
+needs_settled maps more objects ends n (Pushout m m' z p q) range built = refl
+needs_settled maps more objects ends n (Image m z e j) range built = refl
+needs_settled maps more objects ends n (Empty z) range built = refl
+needs_settled maps more objects ends n (Sheaf under x) range built = refl
+needs_settled maps more objects ends n (Hom x y) range built = refl
+needs_settled maps more objects ends n _ range built = cc

@@ -1,4 +1,3 @@
-pub mod FormEquations
 pub mod StatementForms
 pub mod DistinctNumbers
 pub mod Listings

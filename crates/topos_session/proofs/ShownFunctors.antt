@@ -4,20 +4,15 @@ use Rattle.std.specs.List.{range_with_len}
 use Rattle.std.proofs.lemmas.List.{drop_all, take_all, take_more, get_or_default}
 use Rattle.std.proofs.lemmas.List.Sums.{sum_by-append}
 use Rattle.std.proofs.lemmas.List.FromFn.{map-range_with_len_more}
-use Rattle.finite_lists.specs.Members.{In}
-use Rattle.finite_lists.proofs.Lists.{In_at}
 use Rattle.topos_model.specs.declared.value.Val.{Val, El}
-use Rattle.topos_model.specs.declared.ty.Ty.{Base}
 use Rattle.topos_model.specs.declared.answer.Shape.{Shape}
-use Rattle.topos_model.specs.declared.answer.MapShape.{MapShape}
 use Rattle.topos_model.specs.categories.Category.{Category}
 use Rattle.topos_model.specs.types.Types.{Presheaf}
-use Rattle.topos_model.specs.Laws.{IsCategory, IsFunctor}
-use Rattle.topos_model.specs.presheaves.Maps.{Components, IsNatural}
-use Rattle.topos_model.specs.presheaves.NaturalMaps.{maps}
 use Rattle.topos_model.specs.statements.Cells.{hom_cells}
 use Rattle.topos_model.specs.statements.Answers.{shape_of, map_shape, functor_map, element_pairs}
-use Rattle.natural_maps.proofs.AllMaps.{maps_are_natural}
+use Rattle.topos_model.specs.presheaves.Maps.{Components}
+use Rattle.topos_session.specs.Declarations.{declared_between}
+use Rattle.topos_session.specs.Constructions.{between}
 use Rattle.natural_maps.proofs.CellSums.{more_than_share, within_share}
 
 pub functor_shown : (k : Category) (X : Presheaf) (sizes : List ℕ) (along : List (List ℕ)) (n : ℕ) → sizes ≡ X.sizes → (along ++ drop n X.along) ≡ drop k.objects X.along → length X.along ≤ n →
@@ -39,10 +34,10 @@ pub all_pairs : (images : List ℕ) (x : ℕ) (pairs : List (Val × Val)) → le
 unfolding element_pairs
 all_pairs images x pairs whole first = first ∙ ap (λ n. map (λ x. (El x, El (get_or images x 0))) (range_with_len 0 n)) (sym whole)
 
-pub map_shown : (x y : ℕ) (m : Components) (stages : List (List (Val × Val))) (n : ℕ) → stages ≡ map element_pairs (take n m) → length m ≤ n →
-    ◌≡◌ {A = MapShape} (record { ends = record { dom = Base x; cod = Base y }; stages = stages }) (map_shape (functor_map x y m))
+-- maps between the functors x and y as they are shown
+pub maps_shown : (x y : ℕ) (maps : List Components) → map (λ m. map_shape (declared_between (between x y m))) maps ≡ map (λ m. map_shape (functor_map x y m)) maps
 unfolding functor_map
-map_shown x y m stages n first whole = rw (first, take_all n m whole) refl
+maps_shown x y maps = refl
 
 -- the sum of some numbers and the next
 pub sum_more : (xs : List ℕ) (i : ℕ) → i < length xs → sum (take i xs) + get_or xs i 0 ≡ sum (take (i + 1) xs)
@@ -62,14 +57,3 @@ hom_cost X n = refl
 
 pub not_too_many : (X : Presheaf) (n budget : ℕ) → n ≤ budget / (1 + sum X.sizes) → n * (1 + sum X.sizes) ≤ budget
 not_too_many X n budget few = within_share budget n (sum X.sizes) few
-
--- each map that is listed is natural
-module _ (k : Category) (P Q : Presheaf) (lawful : IsCategory k) (domain : IsFunctor k P) (codomain : IsFunctor k Q) (found : List Components) (all : found ≡ maps k P Q) where
-  natural_at : (i : ℕ) → i < length found → IsNatural k P Q (get_or found i [])
-  natural_at i low = (maps_are_natural k P Q lawful domain codomain).0 (get_or found i []) (subst (λ (l : List Components). In l (get_or found i [])) all (In_at found i [] low))
-
-  pub listed_objects : (i : ℕ) → i < length found → length (get_or found i []) ≡ length P.sizes
-  listed_objects i low = (natural_at i low).objects ∙ sym domain.objects
-
-  pub listed_total : (i c : ℕ) → i < length found → c < length P.sizes → length (get_or (get_or found i []) c []) ≡ get_or P.sizes c 0
-  listed_total i c low within = (natural_at i low).total c (subst (λ n. c < n) domain.objects within)

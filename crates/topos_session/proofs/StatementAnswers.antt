@@ -1,5 +1,5 @@
 -- The answers of statements and their refusals, over what is declared before them.
-use Rattle.std.proofs.Common.{◌≡◌, ℕ, ◌+◌, ◌-◌, ◌<◌, ◌≤◌, true, eqb, [], ◌∷◌, ◌++◌, map, length, Option, Some, None, Err, refl, ap, ◌∙◌, length-append, arith}
+use Rattle.std.proofs.Common.{◌≡◌, ℕ, ◌+◌, ◌-◌, ◌<◌, ◌≤◌, true, eqb, [], ◌∷◌, ◌++◌, map, length, Option, Some, None, Err, refl, sym, ap, subst, ◌∙◌, length-append, append-nil, arith}
 use Rattle.topos_model.specs.declared.raw.RawFunctor.{RawFunctor}
 use Rattle.topos_model.specs.declared.raw.RawMap.{RawMap}
 use Rattle.topos_model.specs.declared.context.Ctx.{Ctx}
@@ -36,6 +36,7 @@ use Rattle.functor_store.specs.declared.fault.StoreFault.TheVariants.{Over, NoMe
 use Rattle.sealed_functors.specs.Rows.{IsOverExactly}
 use Rattle.sealed_world.specs.SealedWorlds.{CountedWorld, counted_cells, world_cells, cells_with, IsGrownBy}
 use Rattle.sealed_world.specs.SealedWorlds as world
+use Rattle.formula_answers.specs.MapTables.{ends_of}
 use Rattle.topos_session.specs.declared.declarations.Declarations.{Declarations}
 use Rattle.topos_session.specs.declared.stop.Stop.{Stop}
 use Rattle.topos_session.specs.declared.stop.Stop.TheVariants as stop
@@ -46,7 +47,7 @@ use Rattle.topos_session.specs.Constructions.{is_construction, between}
 use Rattle.topos_session.specs.Homs.{IsHom, IsUnlisted}
 use Rattle.topos_session.specs.Statements.{refusal_over, IsAnsweredOver, IsStoppedOver, IsOverBudget, by_answer, presheaf_stop, map_stop, store_stop}
 use Rattle.topos_session.proofs.StatementForms.{declares-Presheaf, declares-Map, declares-Sheaf, declares-Hom}
-use Rattle.topos_session.proofs.LawfulDeclarations.{lawful_presheaf, lawful_map, lawful_cells}
+use Rattle.topos_session.proofs.LawfulDeclarations.{natural_between, lawful_presheaf, lawful_map, lawful_cells}
 use Rattle.topos_session.proofs.NoTypes.{needs-Presheaf, needs-Map, needs-Sheaf, needs-Hom, sealed_already, types_free}
 
 -- the counts of what a statement declares
@@ -80,20 +81,20 @@ module _ (k : Category) (so : Declarations) where
           record {
             accepted = faultless;
             mid = so;
-            sealed = sealed_already so (Presheaf functor raw) (needs-Presheaf functor raw);
-            types_fit = types_free so (Presheaf functor raw) (needs-Presheaf functor raw) fits;
+            sealed = sealed_already so (Presheaf functor raw) (needs-Presheaf (ends_of so.maps) functor raw);
+            types_fit = types_free so (Presheaf functor raw) (needs-Presheaf (ends_of so.maps) functor raw) fits;
             answers = (refl, ap (with_presheaf so) listed);
             within = within;
             lawful = lawful_presheaf k so lawful X here;
             declared = declared_counts (Presheaf functor raw) 1 0 (with_presheaf so X) (declares-Presheaf functor raw) longer (omega arith);
             functors = omega (arith, longer);
-            maps = omega arith;
+            maps = ([], sym (append-nil so.maps));
             kept = (refl, refl, refl);
           }
 
       pub presheaf_unstored : (fault : StoreFault) → IsOverExactly {A = Unit {0}} (Err fault) (so.world.budget < world_cells (world.with_presheaf so.world X)) → IsStoppedOver k so (Presheaf functor raw) (store_stop fault)
       presheaf_unstored Over over =
-          by_answer so Quiet (with_presheaf so X) faultless (sealed_already so (Presheaf functor raw) (needs-Presheaf functor raw)) (types_free so (Presheaf functor raw) (needs-Presheaf functor raw) fits)
+          by_answer so Quiet (with_presheaf so X) faultless (sealed_already so (Presheaf functor raw) (needs-Presheaf (ends_of so.maps) functor raw)) (types_free so (Presheaf functor raw) (needs-Presheaf (ends_of so.maps) functor raw) fits)
           (refl, ap (with_presheaf so) listed) refl refl over
       presheaf_unstored OutOfMemory over = tt
 
@@ -107,14 +108,14 @@ module _ (k : Category) (so : Declarations) where
           record {
             accepted = faultless;
             mid = so;
-            sealed = sealed_already so (Map number x y raw) (needs-Map number x y raw);
-            types_fit = types_free so (Map number x y raw) (needs-Map number x y raw) fits;
-            answers = (refl, ap (λ (m : Components). with_map so (between x y m)) listed);
+            sealed = sealed_already so (Map number x y raw) (needs-Map (ends_of so.maps) number x y raw);
+            types_fit = types_free so (Map number x y raw) (needs-Map (ends_of so.maps) number x y raw) fits;
+            answers = (refl, ap (λ (m : Components). with_map so (between x y m)) listed, subst (IsNatural k (functor_at so.world.functors x) (functor_at so.world.functors y)) listed natural);
             within = fits;
-            lawful = lawful_map k so lawful (between x y m) (record { dom = domain; cod = codomain; natural = natural });
+            lawful = lawful_map k so lawful (between x y m) (natural_between so.world.site so.world.functors k lawful.category lawful.functors x y m domain codomain natural).table;
             declared = declared_counts (Map number x y raw) 0 1 (with_map so (between x y m)) (declares-Map number x y raw) (omega arith) longer;
             functors = omega arith;
-            maps = omega (arith, longer);
+            maps = (between x y m ∷ [], refl);
             kept = (refl, refl, refl);
           }
 
@@ -124,14 +125,14 @@ module _ (k : Category) (so : Declarations) where
       sheaf_tested verdict is lawful = record {
         accepted = rw first refl;
         mid = so;
-        sealed = sealed_already so (Sheaf under x) (needs-Sheaf under x);
-        types_fit = types_free so (Sheaf under x) (needs-Sheaf under x) fits;
+        sealed = sealed_already so (Sheaf under x) (needs-Sheaf (ends_of so.maps) under x);
+        types_fit = types_free so (Sheaf under x) (needs-Sheaf (ends_of so.maps) under x) fits;
         answers = (ap (answer_of x) is ∙ answer_is x (sheaf_fault so.world.site (functor_at so.world.functors x)), refl);
         within = fits;
         lawful = lawful;
         declared = declared_counts (Sheaf under x) 0 0 so (declares-Sheaf under x) (omega arith) (omega arith);
         functors = omega arith;
-        maps = omega arith;
+        maps = ([], sym (append-nil so.maps));
         kept = (refl, refl, refl);
       }
 
@@ -147,14 +148,14 @@ module _ (k : Category) (so : Declarations) where
       maps_listed room listed hom lawful within = record {
         accepted = refl;
         mid = so;
-        sealed = sealed_already so (Hom x y) (needs-Hom x y);
-        types_fit = types_free so (Hom x y) (needs-Hom x y) fits;
+        sealed = sealed_already so (Hom x y) (needs-Hom (ends_of so.maps) x y);
+        types_fit = types_free so (Hom x y) (needs-Hom (ends_of so.maps) x y) fits;
         answers = (ap Maps hom.shapes, ap (with_cells so) hom.cells);
         within = within;
         lawful = lawful_cells k so lawful listed.cells;
         declared = declared_counts (Hom x y) 0 0 (with_cells so listed.cells) (declares-Hom x y) (omega arith) (omega arith);
         functors = omega arith;
-        maps = omega arith;
+        maps = ([], sym (append-nil so.maps));
         kept = (refl, refl, refl);
       }
 
@@ -165,7 +166,7 @@ module _ (k : Category) (so : Declarations) where
       pub maps_over : so.world.budget < world_cells so.world + hom_cells (length (maps k X Y)) X → IsOverBudget k so (Hom x y)
       maps_over over =
           by_answer so (Maps (map (λ m. map_shape (functor_map x y m)) (maps k X Y))) (with_cells so (hom_cells (length (maps k X Y)) X)) refl
-          (sealed_already so (Hom x y) (needs-Hom x y)) (types_free so (Hom x y) (needs-Hom x y) fits) (refl, refl) refl refl
+          (sealed_already so (Hom x y) (needs-Hom (ends_of so.maps) x y)) (types_free so (Hom x y) (needs-Hom (ends_of so.maps) x y) fits) (refl, refl) refl refl
           (let e = more_charged (hom_cells (length (maps k X Y)) X) in omega (arith, over, e))
 
       pub maps_unlisted : (room : ℕ) (s : Stop) → room + world_cells so.world ≡ so.world.budget → IsUnlisted k X Y room s → IsStoppedOver k so (Hom x y) s

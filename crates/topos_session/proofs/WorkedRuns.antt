@@ -14,13 +14,13 @@ use Rattle.topos_model.specs.statements.Declarations.{Declared, nothing, with_fu
 use Rattle.topos_model.specs.statements.Run.{IsAnswered, at_once, refused, answered, site_accepted}
 use Rattle.topos_model.proofs.WorkedRuns.{opened, raw, G, graphs}
 use Rattle.term_ranges.specs.Ranges.{is_part_in_range, is_type_in_range, is_term_in_range}
-use Rattle.topos_session.specs.Ranges.{applies_none, is_topology_in_range, is_formula_in_range, is_in_range, declares, are_in_range, has_range}
-use Rattle.topos_session.specs.Built.{is_formula_built, is_built, today}
+use Rattle.topos_session.specs.Ranges.{is_topology_in_range, is_formula_in_range, is_in_range, declares, are_in_range, has_range}
+use Rattle.topos_session.specs.Built.{is_built, today}
 use Rattle.topos_session.specs.StagedRun.{StagedRunOf, in_range}
 
 -- what the examples compute with
 unfoldable built : Unit {0}
-unfolding is_category_listing is_presheaf_listing is_map_listing are_distinct is_part_in_range is_type_in_range is_term_in_range applies_none is_topology_in_range is_formula_in_range is_in_range declares are_in_range has_range is_formula_built is_built
+unfolding is_category_listing is_presheaf_listing is_map_listing are_distinct is_part_in_range is_type_in_range is_term_in_range is_topology_in_range is_formula_in_range is_in_range declares are_in_range has_range is_built
 built = tt
 
 -- a graph, and then a verdict on one variable

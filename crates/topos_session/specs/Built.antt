@@ -1,16 +1,11 @@
 -- How much of the language this program runs.
-use Rattle.std.specs.Prelude.{ℕ, Bool, true, false, ◌&&◌, eqb}
-use Rattle.topos_model.specs.declared.term.Term.{Term}
+use Rattle.std.specs.Prelude.{Bool, true, false, eqb}
 use Rattle.topos_model.specs.declared.stmt.Stmt.{Stmt}
 use Rattle.topos_model.specs.declared.stmt.Stmt.TheVariants.{Presheaf, Map, Product, Coproduct, Equalizer, Coequalizer, Pullback, Pushout, Image, Empty, Sheaf, Hom, Show, Classify, Valid}
 use Rattle.topos_model.specs.statements.Run.{Extent}
-use Rattle.topos_session.specs.Ranges.{is_single, applies_none}
+use Rattle.topos_session.specs.Ranges.{is_single}
 
--- under the first topology, and without maps
-unfoldable pub is_formula_built : ℕ → Term → Bool
-is_formula_built under φ = eqb under 0 && applies_none φ
-
--- presheaves, natural maps and their lists, limits, images and colimits, tests of sheaves, and formulas that apply no map
+-- presheaves, natural maps and their lists, limits, images and colimits; tests of sheaves and formulas under the first topology
 unfoldable pub is_built : Stmt → Bool
 is_built (Presheaf functor raw) = true
 is_built (Map m x y raw) = true
@@ -24,9 +19,9 @@ is_built (Image m z e j) = true
 is_built (Empty z) = true
 is_built (Sheaf under x) = eqb under 0
 is_built (Hom x y) = true
-is_built (Show under ctx φ) = is_formula_built under φ
-is_built (Classify under ctx φ) = is_formula_built under φ
-is_built (Valid under ctx φ) = is_formula_built under φ
+is_built (Show under ctx φ) = eqb under 0
+is_built (Classify under ctx φ) = eqb under 0
+is_built (Valid under ctx φ) = eqb under 0
 is_built _ = false
 
 -- one topology

@@ -2,7 +2,7 @@
 use Rattle.std.specs.Prelude.{ℕ, ◌+◌, Bool, true, false, cond, ◌&&◌, List, [], ◌∷◌, length, get_or, eqb, ltb, leb, Option, Some, None}
 use Rattle.std.specs.List.{list_all}
 use Rattle.topos_model.specs.declared.context.Ctx.{Ctx}
-use Rattle.topos_model.specs.declared.term.Term.{Term, Pair', Fst', Snd', App', Eval', Lam', Compr', Eq', Member', And', Or', Implies', Not', Forall', Exists', Unique', more_of-Term as only, end_of-Term as end}
+use Rattle.topos_model.specs.declared.term.Term.{Term}
 use Rattle.topos_model.specs.declared.stmt.Stmt.{Stmt}
 use Rattle.topos_model.specs.declared.stmt.Stmt.TheVariants.{Presheaf, Map, Product, Coproduct, Equalizer, Coequalizer, Pullback, Pushout, Image, Empty, Sheaf, Hom, Show, Classify, Valid}
 use Rattle.topos_model.specs.declared.raw.Family.{Family}
@@ -11,26 +11,6 @@ use Rattle.topos_model.specs.declared.doc.Doc.{Doc}
 use Rattle.topos_model.specs.categories.Listed.{all_ends}
 use Rattle.term_ranges.specs.Ranges.{is_type_in_range, is_term_in_range}
 use Rattle.topos_model.specs.statements.Form.{is_category_listing, is_presheaf_listing, is_map_listing}
-
--- a formula, or another term, that applies no map
-unfoldable pub applies_none : Term → Bool
-applies_none (Pair' _ (only t end) _ (only u end)) = applies_none t && applies_none u
-applies_none (Fst' _ (only t end)) = applies_none t
-applies_none (Snd' _ (only t end)) = applies_none t
-applies_none (App' m _ (only t end)) = false
-applies_none (Eval' _ (only t end) _ (only u end)) = applies_none t && applies_none u
-applies_none (Lam' T _ (only t end)) = applies_none t
-applies_none (Compr' T _ (only t end)) = applies_none t
-applies_none (Eq' _ (only t end) _ (only u end)) = applies_none t && applies_none u
-applies_none (Member' _ (only t end) _ (only u end)) = applies_none t && applies_none u
-applies_none (And' _ (only t end) _ (only u end)) = applies_none t && applies_none u
-applies_none (Or' _ (only t end) _ (only u end)) = applies_none t && applies_none u
-applies_none (Implies' _ (only t end) _ (only u end)) = applies_none t && applies_none u
-applies_none (Not' _ (only t end)) = applies_none t
-applies_none (Forall' T _ (only t end)) = applies_none t
-applies_none (Exists' T _ (only t end)) = applies_none t
-applies_none (Unique' T _ (only t end)) = applies_none t
-applies_none _ = true
 
 -- how many functors and maps a statement declares, where it is of a kind that is run
 unfoldable pub declares : Stmt → Option (ℕ × ℕ)

@@ -1,5 +1,5 @@
 -- What the statements that are run answer over declared functors and maps, and why they are refused.
-use Rattle.std.specs.Prelude.{◌≡◌, ◌↔◌, ℕ, ◌-◌, ◌≤◌, ◌<◌, true, false, not, eqb, List, [], map, reverse, length, flat_map, is_none, Option, Some, None, Ok, ⊤}
+use Rattle.std.specs.Prelude.{◌≡◌, ◌↔◌, ℕ, ◌-◌, ◌≤◌, ◌<◌, true, false, not, eqb, List, map, ◌++◌, reverse, length, flat_map, is_none, Option, Some, None, Ok, ⊤}
 use Rattle.finite_lists.specs.First.{or_else, some_if}
 use Rattle.topos_model.specs.declared.stmt.Stmt.{Stmt}
 use Rattle.topos_model.specs.declared.stmt.Stmt.TheVariants as statement
@@ -16,7 +16,6 @@ use Rattle.natural_maps.specs.declared.fault.MapFault.TheVariants as map_fault
 use Rattle.sealed_world.specs.SealedWorlds.{CountedWorld, world_cells, cells_with, IsGrownBy}
 use Rattle.topos_session.specs.declared.stop.Stop.{Stop}
 use Rattle.topos_session.specs.declared.stop.Stop.TheVariants as stop
-use Rattle.topos_session.specs.declared.declarations.FunctorMap.{FunctorMap}
 use Rattle.topos_session.specs.declared.declarations.Declarations.{Declarations}
 use Rattle.topos_model.specs.categories.Category.{Category}
 use Rattle.topos_model.specs.types.Types.{Presheaf}
@@ -30,8 +29,11 @@ use Rattle.topos_model.specs.formulas.Forcing.{shown}
 use Rattle.topos_model.specs.statements.StatementFaults.{formula_fault}
 use Rattle.term_typing.specs.declared.fault.TypeFault.{TypeFault}
 use Rattle.term_typing.specs.declared.fault.TypeFault.TheVariants as type_fault
+use Rattle.topos_model.specs.declared.context.MapTable.{MapTable}
+use Rattle.formula_answers.specs.MapTables.{ends_of}
 use Rattle.formula_answers.specs.Formulas.{world_of, IsFormulaOver}
 use Rattle.topos_model.specs.categories.Filling.{filled_presheaf}
+use Rattle.topos_model.specs.presheaves.Maps.{IsNatural}
 use Rattle.topos_model.specs.presheaves.NaturalMaps.{maps}
 use Rattle.topos_model.specs.presheaves.PresheafFaults.{presheaf_fault as fault_of_presheaf}
 use Rattle.topos_model.specs.presheaves.MapFaults.{listed_map, map_fault as fault_of_map}
@@ -39,9 +41,8 @@ use Rattle.topos_model.specs.statements.Needs.{needs, parts, term_needs, first_n
 use Rattle.topos_model.specs.statements.Cells.{objects_of, hom_cells}
 use Rattle.topos_model.specs.statements.Answers.{tuple_of, unforced, classified, sheaf_answer, shape_of, map_shape, functor_map}
 use Rattle.topos_session.specs.Ranges.{declares}
-use Rattle.topos_session.specs.Built.{is_formula_built}
 use Rattle.topos_session.specs.Functors.{functor_at}
-use Rattle.topos_session.specs.Declarations.{declared_map, AreLawful, with_functor, with_presheaf, with_map, with_cells}
+use Rattle.topos_session.specs.Declarations.{declared_between, AreLawful, with_functor, with_presheaf, with_map, with_cells}
 use Rattle.topos_session.specs.Constructions.{is_construction, between, property, fit}
 
 -- the stop by a fault of a listed presheaf
@@ -74,41 +75,42 @@ store_stop store_fault.NoMemory = stop.NoMemory
 -- a functor with the property that the statement names is made, shown and declared with its maps
 pub record Builds (k : Category) (so : Declarations) (stmt : Stmt) (answer : Answer) (after : Declarations) : Type 0 where
   pub functor : Presheaf
-  pub maps : List FunctorMap
+  pub maps : List MapTable
   pub property : property k so stmt functor maps
-  pub shown : answer ≡ Built (shape_of k functor) (map (λ m. map_shape (declared_map m)) maps)
+  pub shown : answer ≡ Built (shape_of k functor) (map (λ m. map_shape (declared_between m)) maps)
   pub declared : after ≡ with_functor so functor maps
 
 -- what a statement answers, and what is declared behind it
 abbrev pub AnswersOver : Category → Declarations → Stmt → Answer → Declarations → Type 0
 AnswersOver k so (statement.Presheaf functor raw) answer after = (answer ≡ Quiet) × (after ≡ with_presheaf so (filled_presheaf k raw))
 AnswersOver k so (statement.Map m x y raw) answer after =
-    (answer ≡ Quiet) × (after ≡ with_map so (between x y (listed_map k (functor_at so.world.functors x) raw)))
+    let m = listed_map k (functor_at so.world.functors x) raw in
+    (answer ≡ Quiet) × (after ≡ with_map so (between x y m)) × IsNatural k (functor_at so.world.functors x) (functor_at so.world.functors y) m
 AnswersOver k so (statement.Sheaf under x) answer after = (answer ≡ sheaf_answer x (sheaf_fault so.world.site (functor_at so.world.functors x))) × (after ≡ so)
 AnswersOver k so (statement.Hom x y) answer after =
     let listed = maps k (functor_at so.world.functors x) (functor_at so.world.functors y) in
     (answer ≡ Maps (map (λ m. map_shape (functor_map x y m)) listed)) × (after ≡ with_cells so (hom_cells (length listed) (functor_at so.world.functors x)))
 AnswersOver k so (statement.Show under ctx φ) answer after =
-    (answer ≡ Shown ctx (map (λ c. map tuple_of (shown (world_of so.world) (reverse ctx.types) φ c)) (objects_of k))) × (after ≡ so)
+    (answer ≡ Shown ctx (map (λ c. map tuple_of (shown (world_of so.world so.maps) (reverse ctx.types) φ c)) (objects_of k))) × (after ≡ so)
 AnswersOver k so (statement.Classify under ctx φ) answer after =
-    (answer ≡ Classified ctx (map (classified (world_of so.world) (reverse ctx.types) φ) (objects_of k))) × (after ≡ so)
+    (answer ≡ Classified ctx (map (classified (world_of so.world so.maps) (reverse ctx.types) φ) (objects_of k))) × (after ≡ so)
 AnswersOver k so (statement.Valid under ctx φ) answer after =
-    (answer ≡ Verdict ctx (map (λ c. map tuple_of (unforced (world_of so.world) (reverse ctx.types) φ c)) (objects_of k))) × (after ≡ so)
+    (answer ≡ Verdict ctx (map (λ c. map tuple_of (unforced (world_of so.world so.maps) (reverse ctx.types) φ c)) (objects_of k))) × (after ≡ so)
 AnswersOver k so stmt answer after = Builds k so stmt answer after
 
 -- the first presheaf that occurs in types and is no sheaf
 unfoldable pub no_sheaf_among : CountedWorld → List Ty → Option Fault
 no_sheaf_among w types = first_no_sheaf (λ n. is_none (sheaf_fault w.site (functor_at w.functors n))) (length w.functors) types
 
--- a formula that is not run is refused, then one that has a fault of types or is of another type than truth values, and then one that speaks of a presheaf that is no sheaf
-unfoldable pub formula_refusal : CountedWorld → ℕ → Ctx → Term → Option Fault
-formula_refusal w under ctx φ =
-    or_else (some_if (not (is_formula_built under φ)) refused.NotBuilt)
-    (or_else (formula_fault [] (reverse ctx.types, φ)) (no_sheaf_among w (term_needs [] (reverse ctx.types) φ)))
-
 -- the types that a formula counts
-abbrev pub formula_needs : Ctx → Term → List Ty
-formula_needs ctx φ = term_needs [] (reverse ctx.types) φ
+abbrev pub formula_needs : List MapTable → Ctx → Term → List Ty
+formula_needs maps ctx φ = term_needs (ends_of maps) (reverse ctx.types) φ
+
+-- a formula under another topology than the first is refused, then one that has a fault of types or is of another type than truth values, and then one that speaks of a presheaf that is no sheaf
+unfoldable pub formula_refusal : CountedWorld → List MapTable → ℕ → Ctx → Term → Option Fault
+formula_refusal w maps under ctx φ =
+    or_else (some_if (not (eqb under 0)) refused.NotBuilt)
+    (or_else (formula_fault (ends_of maps) (reverse ctx.types, φ)) (no_sheaf_among w (formula_needs maps ctx φ)))
 
 -- why a statement is refused
 abbrev pub refusal_over : Category → Declarations → Stmt → Option Fault
@@ -116,26 +118,26 @@ refusal_over k so (statement.Presheaf functor raw) = fault_of_presheaf k raw
 refusal_over k so (statement.Map m x y raw) = fault_of_map k (functor_at so.world.functors x) (functor_at so.world.functors y) raw
 refusal_over k so (statement.Sheaf under x) = some_if (not (eqb under 0)) refused.NotBuilt
 refusal_over k so (statement.Hom x y) = None
-refusal_over k so (statement.Show under ctx φ) = formula_refusal so.world under ctx φ
-refusal_over k so (statement.Classify under ctx φ) = formula_refusal so.world under ctx φ
-refusal_over k so (statement.Valid under ctx φ) = formula_refusal so.world under ctx φ
-refusal_over k so stmt = elim (is_construction stmt) [ true ↦ some_if (not (fit k so stmt)) refused.NotParallel | false ↦ Some refused.NotBuilt ]
+refusal_over k so (statement.Show under ctx φ) = formula_refusal so.world so.maps under ctx φ
+refusal_over k so (statement.Classify under ctx φ) = formula_refusal so.world so.maps under ctx φ
+refusal_over k so (statement.Valid under ctx φ) = formula_refusal so.world so.maps under ctx φ
+refusal_over k so stmt = elim (is_construction stmt) [ true ↦ some_if (not (fit so.maps stmt)) refused.NotParallel | false ↦ Some refused.NotBuilt ]
 
 -- the types that a statement counts are sealed, and nothing else has changed
 pub record AreSealedFor (stmt : Stmt) (so mid : Declarations) : Type 0 where
   pub maps : mid.maps ≡ so.maps
-  pub types : IsGrownBy (needs [] stmt) so.world mid.world
+  pub types : IsGrownBy (needs (ends_of so.maps) stmt) so.world mid.world
 
 -- a formula, and types that have the parts that it counts
-pub record IsTyped (ctx : Ctx) (φ : Term) (types : List Ty) : Type 0 where
-  pub formula : typed [] (reverse ctx.types) φ ≡ Ok Omega
-  pub counted : (T : Ty) → In (flat_map parts types) T ↔ In (formula_needs ctx φ) T
+pub record IsTyped (maps : List MapTable) (ctx : Ctx) (φ : Term) (types : List Ty) : Type 0 where
+  pub formula : typed (ends_of maps) (reverse ctx.types) φ ≡ Ok Omega
+  pub counted : (T : Ty) → In (flat_map parts types) T ↔ In (formula_needs maps ctx φ) T
 
 -- its first fault of types, or another type than that of truth values
-abbrev pub IsTypeStop : Ctx → Term → Stop → Type 0
-IsTypeStop ctx φ (stop.Refused fault) = formula_fault [] (reverse ctx.types, φ) ≡ Some fault
-IsTypeStop ctx φ stop.Budget = ⊥
-IsTypeStop ctx φ stop.NoMemory = ⊤
+abbrev pub IsTypeStop : List MapTable → Ctx → Term → Stop → Type 0
+IsTypeStop maps ctx φ (stop.Refused fault) = formula_fault (ends_of maps) (reverse ctx.types, φ) ≡ Some fault
+IsTypeStop _ ctx φ stop.Budget = ⊥
+IsTypeStop _ ctx φ stop.NoMemory = ⊤
 
 -- one of them is no sheaf
 abbrev pub IsSheafStop : CountedWorld → List Ty → Stop → Type 0
@@ -145,17 +147,17 @@ IsSheafStop w types stop.NoMemory = ⊤
 
 -- a formula is accepted, all its types are sealed and within the budget, and nothing else has changed
 pub record IsFormulaSealed (under : ℕ) (ctx : Ctx) (φ : Term) (so mid : Declarations) : Type 0 where
-  pub accepted : formula_refusal so.world under ctx φ ≡ None
+  pub accepted : formula_refusal so.world so.maps under ctx φ ≡ None
   pub maps : mid.maps ≡ so.maps
-  pub types : IsGrownBy (formula_needs ctx φ) so.world mid.world
-  pub types_fit : cells_with so.world (formula_needs ctx φ) ≤ so.world.budget
+  pub types : IsGrownBy (formula_needs so.maps ctx φ) so.world mid.world
+  pub types_fit : cells_with so.world (formula_needs so.maps ctx φ) ≤ so.world.budget
   pub within : world_cells mid.world ≤ so.world.budget
-  pub formula : IsFormulaOver mid.world (reverse ctx.types) φ
+  pub formula : IsFormulaOver mid.world mid.maps (reverse ctx.types) φ
 
 -- it is refused, or its types have more cells than the budget
 abbrev pub IsFormulaStop : ℕ → Ctx → Term → Declarations → Stop → Type 0
-IsFormulaStop under ctx φ so (stop.Refused fault) = formula_refusal so.world under ctx φ ≡ Some fault
-IsFormulaStop under ctx φ so stop.Budget = (formula_refusal so.world under ctx φ ≡ None) × (so.world.budget < cells_with so.world (formula_needs ctx φ))
+IsFormulaStop under ctx φ so (stop.Refused fault) = formula_refusal so.world so.maps under ctx φ ≡ Some fault
+IsFormulaStop under ctx φ so stop.Budget = (formula_refusal so.world so.maps under ctx φ ≡ None) × (so.world.budget < cells_with so.world (formula_needs so.maps ctx φ))
 IsFormulaStop under ctx φ so stop.NoMemory = ⊤
 
 -- a statement is answered, with this declared before it and behind it
@@ -164,20 +166,20 @@ pub record IsAnsweredOver (k : Category) (so : Declarations) (stmt : Stmt) (answ
   -- its types are within the budget
   pub mid : Declarations
   pub sealed : AreSealedFor stmt so mid
-  pub types_fit : cells_with so.world (needs [] stmt) ≤ so.world.budget
+  pub types_fit : cells_with so.world (needs (ends_of so.maps) stmt) ≤ so.world.budget
   pub answers : AnswersOver k mid stmt answer after
   pub within : world_cells after.world ≤ so.world.budget
   pub lawful : AreLawful k after
   pub declared : declares stmt ≡ Some (length after.world.functors - length so.world.functors, length after.maps - length so.maps)
   pub functors : length so.world.functors ≤ length after.world.functors
-  pub maps : length so.maps ≤ length after.maps
+  pub maps : (more : List MapTable) × (after.maps ≡ so.maps ++ more)
   pub kept : (after.world.site ≡ so.world.site) × (after.world.types ≡ mid.world.types) × (after.world.budget ≡ so.world.budget)
 
 -- a statement is accepted, and its types, or these and what it makes, have more cells than the budget
 pub data IsOverBudget (k : Category) (so : Declarations) (stmt : Stmt) : Type 0 where
-  by_types : refusal_over k so stmt ≡ None → so.world.budget < cells_with so.world (needs [] stmt) → IsOverBudget k so stmt
+  by_types : refusal_over k so stmt ≡ None → so.world.budget < cells_with so.world (needs (ends_of so.maps) stmt) → IsOverBudget k so stmt
   by_answer : (mid : Declarations) (answer : Answer) (after : Declarations) → refusal_over k so stmt ≡ None → AreSealedFor stmt so mid
-      → cells_with so.world (needs [] stmt) ≤ so.world.budget → AnswersOver k mid stmt answer after → after.world.site ≡ so.world.site → after.world.types ≡ mid.world.types
+      → cells_with so.world (needs (ends_of so.maps) stmt) ≤ so.world.budget → AnswersOver k mid stmt answer after → after.world.site ≡ so.world.site → after.world.types ≡ mid.world.types
       → so.world.budget < world_cells after.world → IsOverBudget k so stmt
 
 -- a statement is refused, or over the budget, or no memory was left

@@ -10,8 +10,8 @@ ghost use Rattle.topos_session.specs.Constructions.{is_construction};
 ghost use Rattle.topos_session.specs.Statements.{IsAnsweredOver, IsStoppedOver};
 
 use crate::Stop;
-use crate::constructions::construct;
-use crate::declarations::{Declarations, FunctorMap};
+use crate::constructions::{between, construct};
+use crate::declarations::Declarations;
 use crate::formulas::{classify, judge, show};
 use crate::homs::listed_maps;
 use crate::shapes::built;
@@ -20,7 +20,7 @@ use natural_maps::NatMap;
 use presheaf_core::Functor;
 use sheaf_test::{SheafVerdict, test};
 use std::alloc::Global;
-use topos_model::{Answer, Fault, RawFunctor, RawMap, Stmt};
+use topos_model::{Answer, Fault, RawFunctor, RawMap, Row, Stmt};
 
 // Declares a listed presheaf, the next one.
 fn declare_presheaf(
@@ -64,7 +64,9 @@ fn declare_map(
     let _ = number;
     let (dom, cod) = ends;
     let map = NatMap::check(alloc, so.cat(), so.functor(dom), so.functor(cod), raw)?;
-    so.maps.push(FunctorMap { dom, cod, map })?;
+    let mut tables = Row::new(alloc);
+    tables.push(between(dom, cod, map))?;
+    so.maps.append(alloc, tables)?;
     Ok(Answer::Quiet)
 }
 
@@ -84,7 +86,7 @@ fn build(alloc: Global, so: &mut Declarations, stmt: &Stmt) -> Result<Answer, St
         Ok(made) => made,
         Err(stop) => return Err(stop),
     };
-    let answer = built(alloc, so.cat(), so, &made)?;
+    let answer = built(alloc, so.cat(), &made)?;
     so.declare(alloc, made.functor, made.maps)?;
     let _room = so.world.room();
     Ok(answer)

@@ -3,7 +3,7 @@ ghost use Rattle.std.specs.Prelude.{◌≡◌, ◌≤◌, ◌<◌, ◌&&◌, [],
 ghost use Rattle.topos_session.specs.Ranges.{is_in_range};
 ghost use Rattle.natural_maps.specs.Room.{max_room};
 ghost use Rattle.topos_session.specs.Declarations.{AreLawful};
-ghost use Rattle.topos_session.specs.Constructions.{is_construction, property, fit, same_domain, same_codomain, AsProduct, AsCoproduct, AsEqualizer, AsCoequalizer, AsPullback, AsPushout, AsImage, AsInitial, IsMade, IsUnmade};
+ghost use Rattle.topos_session.specs.Constructions.{is_construction, property, fit, between_functors, parallel_maps, maps_with_domain, maps_with_codomain, functor_map_at, IsFunctorMap, IsUnfit, between, AsProduct, AsCoproduct, AsEqualizer, AsCoequalizer, AsPullback, AsPushout, AsImage, AsInitial, IsMade, IsUnmade};
 
 use crate::Stop;
 use crate::declarations::{Declarations, FunctorMap};
@@ -13,20 +13,66 @@ use finite_limits::{equalizer, image, product, pullback};
 use natural_maps::{Made1, Made2, NatMap};
 use presheaf_core::Functor;
 use std::alloc::Global;
-use topos_model::{Fault, NoMemory, Row, Stmt};
+use topos_model::{Fault, MapTable, MapTy, NoMemory, Row, Stmt, Ty};
 
 /// A presheaf that a statement makes, with its maps.
 #[derive(Drop)]
 pub struct Construction {
     pub functor: Functor,
-    pub maps: Row<FunctorMap>,
+    pub maps: Row<MapTable>,
 }
 
-// The map with these components between the presheaves of these numbers.
-fn between(dom: u32, cod: u32, map: NatMap) -> FunctorMap
-    ensures { result ≡ record { dom = dom; cod = cod; map = map } }
+/// The map with these components between the presheaves of these numbers.
+pub(crate) fn between(dom: u32, cod: u32, map: NatMap) -> MapTable
+    ensures { result ≡ between dom cod map }
 {
-    FunctorMap { dom, cod, map }
+    MapTable {
+        ends: MapTy {
+            dom: Ty::Base(dom),
+            cod: Ty::Base(cod),
+        },
+        rows: map.into_rows(),
+    }
+}
+
+// The map m, where it goes from a presheaf to a presheaf.
+fn one_map(alloc: Global, cat: &Cat, so: &Declarations, m: u32) -> Result<FunctorMap, Stop>
+    requires lawful { AreLawful cat.now so.now }
+    requires number { m < length so.now.maps }
+    ensures is { IfOk result (λ map. map ≡ functor_map_at so.now.maps m) }
+    ensures between { IfOk result (λ map. between_functors so.now.maps m ≡ true) }
+    ensures lawful { IfOk result (λ map. IsFunctorMap cat.now so.now.world.functors map) }
+    ensures stop { IfErr result (IsUnfit (between_functors so.now.maps m)) }
+{
+    let _ = cat;
+    match so.functor_map(alloc, m)? {
+        Some(map) => Ok(map),
+        None => Err(Stop::Refused(Fault::NotParallel)),
+    }
+}
+
+// The maps m and n, where both do.
+fn two_maps(
+    alloc: Global,
+    cat: &Cat,
+    so: &Declarations,
+    m: u32,
+    n: u32,
+) -> Result<(FunctorMap, FunctorMap), Stop>
+    requires lawful { AreLawful cat.now so.now }
+    requires first { m < length so.now.maps }
+    requires second { n < length so.now.maps }
+    ensures first { IfOk result (λ maps. maps.0 ≡ functor_map_at so.now.maps m) }
+    ensures second { IfOk result (λ maps. maps.1 ≡ functor_map_at so.now.maps n) }
+    ensures first_between { IfOk result (λ maps. between_functors so.now.maps m ≡ true) }
+    ensures second_between { IfOk result (λ maps. between_functors so.now.maps n ≡ true) }
+    ensures first_lawful { IfOk result (λ maps. IsFunctorMap cat.now so.now.world.functors maps.0) }
+    ensures second_lawful { IfOk result (λ maps. IsFunctorMap cat.now so.now.world.functors maps.1) }
+    ensures stop { IfErr result (IsUnfit (between_functors so.now.maps m && between_functors so.now.maps n)) }
+{
+    let first = one_map(alloc, cat, so, m)?;
+    let second = one_map(alloc, cat, so, n)?;
+    Ok((first, second))
 }
 
 // Whether two maps have the same domain and the same codomain.
@@ -51,7 +97,7 @@ fn have_same_codomain(first: &FunctorMap, second: &FunctorMap) -> bool
 }
 
 // A presheaf with one map.
-fn with_one(alloc: Global, functor: Functor, map: FunctorMap) -> Result<Construction, NoMemory>
+fn with_one(alloc: Global, functor: Functor, map: MapTable) -> Result<Construction, NoMemory>
     ensures functor { IfOk result (λ made. made.functor ≡ functor) }
     ensures maps { IfOk result (λ made. made.maps ≡ map ∷ []) }
 {
@@ -64,8 +110,8 @@ fn with_one(alloc: Global, functor: Functor, map: FunctorMap) -> Result<Construc
 fn with_two(
     alloc: Global,
     functor: Functor,
-    first: FunctorMap,
-    second: FunctorMap,
+    first: MapTable,
+    second: MapTable,
 ) -> Result<Construction, NoMemory>
     ensures functor { IfOk result (λ made. made.functor ≡ functor) }
     ensures maps { IfOk result (λ made. made.maps ≡ first ∷ second ∷ []) }
@@ -144,12 +190,11 @@ fn equalizer_of(
     requires first { m < length so.now.maps }
     requires second { n < length so.now.maps }
     requires room { room ≤ max_room }
-    ensures made { IfOk result (IsMade cat.now room (same_domain cat.now so.now m n && same_codomain cat.now so.now m n) (AsEqualizer cat.now so.now m n functor)) }
-    ensures stop { IfErr result (IsUnmade cat.now room (same_domain cat.now so.now m n && same_codomain cat.now so.now m n) (AsEqualizer cat.now so.now m n functor)) }
+    ensures made { IfOk result (IsMade cat.now room (parallel_maps so.now.maps m n) (AsEqualizer cat.now so.now m n functor)) }
+    ensures stop { IfErr result (IsUnmade cat.now room (parallel_maps so.now.maps m n) (AsEqualizer cat.now so.now m n functor)) }
 {
-    let first = so.map(m);
-    let second = so.map(n);
-    if !are_parallel(first, second) {
+    let (first, second) = two_maps(alloc, cat, so, m, n)?;
+    if !are_parallel(&first, &second) {
         return Err(Stop::Refused(Fault::NotParallel));
     }
     let x = so.functor(first.dom);
@@ -174,12 +219,11 @@ fn coequalizer_of(
     requires first { m < length so.now.maps }
     requires second { n < length so.now.maps }
     requires room { room ≤ max_room }
-    ensures made { IfOk result (IsMade cat.now room (same_domain cat.now so.now m n && same_codomain cat.now so.now m n) (AsCoequalizer cat.now so.now m n functor)) }
-    ensures stop { IfErr result (IsUnmade cat.now room (same_domain cat.now so.now m n && same_codomain cat.now so.now m n) (AsCoequalizer cat.now so.now m n functor)) }
+    ensures made { IfOk result (IsMade cat.now room (parallel_maps so.now.maps m n) (AsCoequalizer cat.now so.now m n functor)) }
+    ensures stop { IfErr result (IsUnmade cat.now room (parallel_maps so.now.maps m n) (AsCoequalizer cat.now so.now m n functor)) }
 {
-    let first = so.map(m);
-    let second = so.map(n);
-    if !are_parallel(first, second) {
+    let (first, second) = two_maps(alloc, cat, so, m, n)?;
+    if !are_parallel(&first, &second) {
         return Err(Stop::Refused(Fault::NotParallel));
     }
     let x = so.functor(first.dom);
@@ -204,12 +248,11 @@ fn pullback_of(
     requires first { m < length so.now.maps }
     requires second { n < length so.now.maps }
     requires room { room ≤ max_room }
-    ensures made { IfOk result (IsMade cat.now room (same_codomain cat.now so.now m n) (AsPullback cat.now so.now m n functor)) }
-    ensures stop { IfErr result (IsUnmade cat.now room (same_codomain cat.now so.now m n) (AsPullback cat.now so.now m n functor)) }
+    ensures made { IfOk result (IsMade cat.now room (maps_with_codomain so.now.maps m n) (AsPullback cat.now so.now m n functor)) }
+    ensures stop { IfErr result (IsUnmade cat.now room (maps_with_codomain so.now.maps m n) (AsPullback cat.now so.now m n functor)) }
 {
-    let first = so.map(m);
-    let second = so.map(n);
-    if !have_same_codomain(first, second) {
+    let (first, second) = two_maps(alloc, cat, so, m, n)?;
+    if !have_same_codomain(&first, &second) {
         return Err(Stop::Refused(Fault::NotParallel));
     }
     let x = so.functor(first.dom);
@@ -239,12 +282,11 @@ fn pushout_of(
     requires first { m < length so.now.maps }
     requires second { n < length so.now.maps }
     requires room { room ≤ max_room }
-    ensures made { IfOk result (IsMade cat.now room (same_domain cat.now so.now m n) (AsPushout cat.now so.now m n functor)) }
-    ensures stop { IfErr result (IsUnmade cat.now room (same_domain cat.now so.now m n) (AsPushout cat.now so.now m n functor)) }
+    ensures made { IfOk result (IsMade cat.now room (maps_with_domain so.now.maps m n) (AsPushout cat.now so.now m n functor)) }
+    ensures stop { IfErr result (IsUnmade cat.now room (maps_with_domain so.now.maps m n) (AsPushout cat.now so.now m n functor)) }
 {
-    let first = so.map(m);
-    let second = so.map(n);
-    if !have_same_domain(first, second) {
+    let (first, second) = two_maps(alloc, cat, so, m, n)?;
+    if !have_same_domain(&first, &second) {
         return Err(Stop::Refused(Fault::NotParallel));
     }
     let x = so.functor(first.dom);
@@ -272,10 +314,10 @@ fn image_of(
     requires lawful { AreLawful cat.now so.now }
     requires map { m < length so.now.maps }
     requires room { room ≤ max_room }
-    ensures made { IfOk result (IsMade cat.now room true (AsImage cat.now so.now m functor)) }
-    ensures stop { IfErr result (IsUnmade cat.now room true (AsImage cat.now so.now m functor)) }
+    ensures made { IfOk result (IsMade cat.now room (between_functors so.now.maps m) (AsImage cat.now so.now m functor)) }
+    ensures stop { IfErr result (IsUnmade cat.now room (between_functors so.now.maps m) (AsImage cat.now so.now m functor)) }
 {
-    let map = so.map(m);
+    let map = one_map(alloc, cat, so, m)?;
     let x = so.functor(map.dom);
     let y = so.functor(map.cod);
     match image(alloc, cat, x, y, &map.map, room)? {
@@ -315,8 +357,8 @@ pub(crate) fn construct(
     requires construction { is_construction stmt.now ≡ true }
     requires range { is_in_range cat.now.objects cat.now.ends (length so.now.world.functors) (length so.now.maps) stmt.now ≡ true }
     requires budget { budget ≤ max_room }
-    ensures made { IfOk result (IsMade cat.now budget (fit cat.now so.now stmt.now) (property cat.now so.now stmt.now)) }
-    ensures stop { IfErr result (IsUnmade cat.now budget (fit cat.now so.now stmt.now) (property cat.now so.now stmt.now)) }
+    ensures made { IfOk result (IsMade cat.now budget (fit so.now.maps stmt.now) (property cat.now so.now stmt.now)) }
+    ensures stop { IfErr result (IsUnmade cat.now budget (fit so.now.maps stmt.now) (property cat.now so.now stmt.now)) }
 {
     match stmt {
         Stmt::Product { x, y, functor, .. } => product_of(alloc, cat, so, *x, *y, *functor, budget),

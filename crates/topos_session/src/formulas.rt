@@ -10,18 +10,18 @@ ghost use Rattle.topos_session.specs.Statements.{no_sheaf_among, IsTyped, IsType
 
 use crate::Stop;
 use crate::declarations::Declarations;
-use crate::form::is_formula_built;
+use crate::maps::DeclaredMaps;
 use formula_answers::{classified, shown, unforced};
 use std::alloc::Global;
 use term_typing::{counted, names_functor};
 use topos_model::{Answer, Copied, Ctx, Fault, Row, Term, Ty};
 
 // The types that a formula counts, or why it is none.
-fn formula_types(alloc: Global, ctx: &Ctx, phi: &Term) -> Result<Row<Ty>, Stop>
-    ensures types { IfOk result (λ types. IsTyped ctx.now phi.now types) }
-    ensures stop { IfErr result (λ stop. IsTypeStop ctx.now phi.now stop) }
+fn formula_types(alloc: Global, maps: &DeclaredMaps, ctx: &Ctx, phi: &Term) -> Result<Row<Ty>, Stop>
+    ensures types { IfOk result (λ types. IsTyped maps.now ctx.now phi.now types) }
+    ensures stop { IfErr result (λ stop. IsTypeStop maps.now ctx.now phi.now stop) }
 {
-    let found = counted(alloc, &[], ctx, phi)?;
+    let found = counted(alloc, maps.ends(), ctx, phi)?;
     let needed = Ty::Omega;
     if needed == found.ty {
         return Ok(found.types);
@@ -63,13 +63,13 @@ fn seal_formula(
     ensures stop { IfErr result (λ stop. IsFormulaStop under ctx.now phi.now so.old stop) }
     ensures unchanged { OnErr result (IsKept so.old so.new) }
 {
-    if !is_formula_built(under, phi) {
+    if under != 0 {
         return Err(Stop::Refused(Fault::NotBuilt));
     }
     // The laws of the site, for the proof alone.
     so.cat().laws();
     let _top = so.world.site().top();
-    let types = formula_types(alloc, ctx, phi)?;
+    let types = formula_types(alloc, &so.maps, ctx, phi)?;
     name_sheaves(alloc, so, types.as_slice())?;
     so.world.need(alloc, types.as_slice())?;
     let _room = so.world.room();
@@ -93,7 +93,13 @@ pub(crate) fn show(
     ensures unchanged { OnErr result (IsKept so.old so.new) }
 {
     seal_formula(alloc, so, under, ctx, phi)?;
-    let stages = shown(alloc, &so.world, ctx.types.as_slice(), phi)?;
+    let stages = shown(
+        alloc,
+        &so.world,
+        so.maps.tables(),
+        ctx.types.as_slice(),
+        phi,
+    )?;
     let ctx = ctx.copy(alloc)?;
     Ok(Answer::Shown { ctx, stages })
 }
@@ -115,7 +121,13 @@ pub(crate) fn classify(
     ensures unchanged { OnErr result (IsKept so.old so.new) }
 {
     seal_formula(alloc, so, under, ctx, phi)?;
-    let stages = classified(alloc, &so.world, ctx.types.as_slice(), phi)?;
+    let stages = classified(
+        alloc,
+        &so.world,
+        so.maps.tables(),
+        ctx.types.as_slice(),
+        phi,
+    )?;
     let ctx = ctx.copy(alloc)?;
     Ok(Answer::Classified { ctx, stages })
 }
@@ -137,7 +149,13 @@ pub(crate) fn judge(
     ensures unchanged { OnErr result (IsKept so.old so.new) }
 {
     seal_formula(alloc, so, under, ctx, phi)?;
-    let unforced = unforced(alloc, &so.world, ctx.types.as_slice(), phi)?;
+    let unforced = unforced(
+        alloc,
+        &so.world,
+        so.maps.tables(),
+        ctx.types.as_slice(),
+        phi,
+    )?;
     let ctx = ctx.copy(alloc)?;
     Ok(Answer::Verdict { ctx, unforced })
 }

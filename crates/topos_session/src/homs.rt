@@ -1,10 +1,12 @@
 // The list of all natural maps between two presheaves.
-ghost use Rattle.std.specs.Prelude.{◌≡◌, ◌≤◌, ◌<◌, ◌^◌, ℕ, [], map, length, get_or, sum, IfOk, IfErr};
+ghost use Rattle.std.specs.Prelude.{◌≡◌, ◌≤◌, ◌<◌, ◌^◌, map, length, sum, IfOk, IfErr};
 ghost use Rattle.topos_model.specs.Laws.{IsFunctor};
 ghost use Rattle.topos_model.specs.presheaves.NaturalMaps.{maps};
 ghost use Rattle.topos_model.specs.statements.Cells.{hom_cells};
-ghost use Rattle.topos_model.specs.statements.Answers.{map_shape, functor_map};
+ghost use Rattle.topos_model.specs.statements.Answers.{map_shape};
 ghost use Rattle.natural_maps.specs.Room.{max_room};
+ghost use Rattle.topos_session.specs.Declarations.{declared_between};
+ghost use Rattle.topos_session.specs.Constructions.{between};
 ghost use Rattle.topos_session.specs.Homs.{IsHom, IsUnlisted};
 
 use crate::Stop;
@@ -13,7 +15,7 @@ use fin_category::Cat;
 use natural_maps::{Listing, NatMap, list_maps};
 use presheaf_core::Functor;
 use std::alloc::Global;
-use topos_model::{MapShape, NoMemory, Row};
+use topos_model::{MapShape, MapTy, NoMemory, Row, Ty};
 
 /// All natural maps between two presheaves as they are shown, and their cells.
 #[derive(Drop)]
@@ -35,20 +37,17 @@ fn elements(sizes: &[u32]) -> u64
     elements
 }
 
-// The maps between presheaves of these numbers as they are shown, the first with these sizes.
-fn shapes(
-    alloc: Global,
-    ends: (u32, u32),
-    sizes: &[u32],
-    maps: &[NatMap],
-) -> Result<Row<MapShape>, NoMemory>
-    requires objects { (i : ℕ) → i < length maps.now → length (get_or maps.now i []) ≡ length sizes.now }
-    requires total { (i c : ℕ) → i < length maps.now → c < length sizes.now → length (get_or (get_or maps.now i []) c []) ≡ get_or sizes.now c 0 }
-    ensures { IfOk result (λ shapes. shapes ≡ map (λ m. map_shape (functor_map ends.0 ends.1 m)) maps.now) }
+// The maps between presheaves of these numbers as they are shown.
+fn shapes(alloc: Global, ends: (u32, u32), maps: &[NatMap]) -> Result<Row<MapShape>, NoMemory>
+    ensures { IfOk result (λ shapes. shapes ≡ map (λ m. map_shape (declared_between (between ends.0 ends.1 m))) maps.now) }
 {
     let mut shapes = Row::new(alloc);
     for map in maps {
-        shapes.push(map_shape(alloc, ends, sizes, map.rows())?)?;
+        let ends = MapTy {
+            dom: Ty::Base(ends.0),
+            cod: Ty::Base(ends.1),
+        };
+        shapes.push(map_shape(alloc, ends, map.rows())?)?;
     }
     Ok(shapes)
 }
@@ -73,7 +72,7 @@ pub(crate) fn listed_maps(
     match list_maps(alloc, cat, from, to, budget / cost)? {
         Listing::Over => Err(Stop::Budget),
         Listing::All(maps) => {
-            let shapes = shapes(alloc, ends, from.sizes(), maps.as_slice())?;
+            let shapes = shapes(alloc, ends, maps.as_slice())?;
             let cells = maps.len() as u64 * cost;
             Ok(Hom { shapes, cells })
         }

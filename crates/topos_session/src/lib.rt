@@ -4,10 +4,10 @@
 mod answer;
 mod constructions;
 mod declarations;
-mod form;
 mod formulas;
 mod homs;
 mod listing;
+mod maps;
 mod range;
 mod run;
 mod session;

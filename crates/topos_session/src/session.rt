@@ -6,6 +6,7 @@ ghost use Rattle.topos_session.specs.Steps.{category_stop, topology_stop};
 
 use crate::answer::answer;
 use crate::declarations::Declarations;
+use crate::maps::DeclaredMaps;
 use crate::range::has_range;
 use crate::topology::{declared_topology, is_single};
 use crate::{SiteStop, Stop};
@@ -14,7 +15,7 @@ use sealed_world::SealedWorld;
 use std::alloc::Global;
 use std::marker::Model;
 use topologies::{Site, TopFault};
-use topos_model::{Answer, Doc, Fault, Row};
+use topos_model::{Answer, Doc, Fault};
 
 // The fault of the category refuses the document.
 fn category_stop(doc: Doc, fault: CatFault) -> SiteStop
@@ -120,7 +121,7 @@ impl Session {
             doc,
             so: Declarations {
                 world,
-                maps: Row::new(alloc),
+                maps: DeclaredMaps::new(alloc),
             },
             answered: 0,
             live: true,

@@ -3,7 +3,7 @@ use Rattle.std.proofs.lemmas.Result.{err_from_is_err_and}
 use Rattle.sealed_world.specs.SealedWorlds.{world_cells}
 use Rattle.topos_session.specs.declared.declarations.Declarations.{Declarations}
 use Rattle.topos_session.specs.Declarations.{with_functor}
-use Rattle.topos_session.proofs.MadeFunctors.{functor_made, functors_behind, maps_made, construction_answered, construction_stopped, construction_unstored}
+use Rattle.topos_session.proofs.MadeFunctors.{functor_made, construction_answered, construction_stopped, construction_unstored}
 use Rattle.topos_session.proofs.answer.build.Goals as goal
 
 pub returns-in-Err-clause-stop : goal.returns-in-Err-clause-stop
@@ -11,23 +11,11 @@ returns-in-Err-clause-stop c =
     let so = c.args.so.now in
     construction_stopped so.world.site.category so c.requires.lawful c.room-room.result c.args.stmt.now c.requires.construction c.requires.range c.requires.fits c.in-Err.stop (rw c.cat.ensures at c.in-Err.ensures.stop) c.room-room.ensures.room c.room-room.ensures.next
 
-pub built-requires-clause-functors : goal.built-requires-clause-functors
-built-requires-clause-functors c =
+pub built-requires : goal.built-requires
+built-requires c =
     let so = c.args.so.now in
     let made = c.in-Ok.made in
-    rw c.cat-2.ensures (functors_behind so.world.site.category so c.requires.lawful c.args.stmt.now made.functor made.maps c.requires.construction c.requires.range (rw c.cat.ensures at c.in-Ok.ensures.made.property))
-
-pub built-requires-clause-functor : goal.built-requires-clause-functor
-built-requires-clause-functor c =
-    let so = c.args.so.now in
-    let made = c.in-Ok.made in
-    rw c.cat-2.ensures (functor_made so.world.site.category so c.requires.lawful c.args.stmt.now made.functor made.maps c.requires.construction c.requires.range (rw c.cat.ensures at c.in-Ok.ensures.made.property))
-
-pub built-requires-clause-natural : goal.built-requires-clause-natural
-built-requires-clause-natural c =
-    let so = c.args.so.now in
-    let made = c.in-Ok.made in
-    rw c.cat-2.ensures (maps_made so.world.site.category so c.requires.lawful c.args.stmt.now made.functor made.maps c.requires.construction c.requires.range (rw c.cat.ensures at c.in-Ok.ensures.made.property))
+    record { functor = rw c.cat-2.ensures (functor_made so.world.site.category so c.requires.lawful c.args.stmt.now made.functor made.maps c.requires.construction c.requires.range c.in-Ok.ensures.made.parallel (rw c.cat.ensures at c.in-Ok.ensures.made.property)) }
 
 fits : (old new : Declarations) (room : ℕ) → new ≡ old → room + world_cells new.world ≡ new.world.budget → world_cells old.world ≤ old.world.budget
 fits old new room e r = subst (λ (d : Declarations). world_cells d.world ≤ d.world.budget) e (omega (arith, r))

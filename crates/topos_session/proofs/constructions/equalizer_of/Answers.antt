@@ -1,21 +1,20 @@
-use Rattle.std.proofs.Common.{◌≡◌, ◌&&◌, true, [], ◌∷◌, refl, sym, ◌∙◌}
+use Rattle.std.proofs.Common.{◌≡◌, true, [], ◌∷◌, refl, sym, ◌∙◌}
 use Rattle.topos_model.specs.presheaves.Limits.{IsEqualizer}
 use Rattle.topos_session.specs.Functors.{functor_at}
-use Rattle.topos_session.specs.Declarations.{map_at}
-use Rattle.topos_session.specs.Constructions.{between, from, same_domain, same_codomain, AsEqualizer}
-use Rattle.topos_session.proofs.LargeConstructions.{one_over}
+use Rattle.topos_session.specs.Constructions.{between, from, functor_map_at, parallel_maps, AsEqualizer}
+use Rattle.topos_session.proofs.LargeConstructions.{both_between, one_over}
 use Rattle.topos_session.proofs.constructions.equalizer_of.Goals as goal
 
 pub returns-in-Over-clause-stop : goal.returns-in-Over-clause-stop
 returns-in-Over-clause-stop c =
     let k = c.args.cat.now in
     let so = c.args.so.now in
-    let m = map_at so.maps c.args.m in
-    let n = map_at so.maps c.args.n in
-    let parallel : (same_domain k so c.args.m c.args.n && same_codomain k so c.args.m c.args.n) ≡ true =
-    rw (c.map-first.ensures, c.map-second.ensures) at (sym c.are_parallel.ensures ∙ c.if-not-are_parallel.false) in
-    one_over k c.args.room (same_domain k so c.args.m c.args.n && same_codomain k so c.args.m c.args.n) (AsEqualizer k so c.args.m c.args.n c.args.functor) parallel
+    let m = functor_map_at so.maps c.args.m in
+    let n = functor_map_at so.maps c.args.n in
+    let parallel : (parallel_maps so.maps c.args.m c.args.n) ≡ true =
+    both_between _ _ _ c.in_ok-first.ensures.first_between c.in_ok-first.ensures.second_between (rw (c.in_ok-first.ensures.first, c.in_ok-first.ensures.second) at (sym c.are_parallel.ensures ∙ c.if-not-are_parallel.false)) in
+    one_over k c.args.room (parallel_maps so.maps c.args.m c.args.n) (AsEqualizer k so c.args.m c.args.n c.args.functor) parallel
     (IsEqualizer k (functor_at so.world.functors m.dom) (functor_at so.world.functors m.cod) m.map n.map)
-    (λ Z l. between c.args.functor (from k so c.args.m) l ∷ []) (λ Z l has. (l, has, refl)) c.in_ok-equalizer.field-0 c.in-Over.is
-    (rw (c.functor-x.ensures, c.functor-y.ensures, c.map-first.ensures, c.map-second.ensures) at c.in_ok-equalizer.ensures.exists)
-    (rw (c.functor-x.ensures, c.functor-y.ensures, c.map-first.ensures, c.map-second.ensures) at c.in_ok-equalizer.ensures.over)
+    (λ Z l. between c.args.functor (from so.maps c.args.m) l ∷ []) (λ Z l has. (l, has, refl)) c.in_ok-equalizer.field-0 c.in-Over.is
+    (rw (c.functor-x.ensures, c.functor-y.ensures, c.in_ok-first.ensures.first, c.in_ok-first.ensures.second) at c.in_ok-equalizer.ensures.exists)
+    (rw (c.functor-x.ensures, c.functor-y.ensures, c.in_ok-first.ensures.first, c.in_ok-first.ensures.second) at c.in_ok-equalizer.ensures.over)

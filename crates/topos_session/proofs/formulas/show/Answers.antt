@@ -1,6 +1,7 @@
 use Rattle.std.proofs.Common.{◌≡◌, List, map, reverse, refl, ap, ap₂, ◌∙◌}
 use Rattle.std.proofs.lemmas.Result.{err_from_is_err_and}
 use Rattle.topos_model.specs.declared.ty.Ty.{Ty}
+use Rattle.topos_model.specs.declared.context.MapTable.{MapTable}
 use Rattle.topos_model.specs.declared.stmt.Stmt.TheVariants.{Show}
 use Rattle.topos_model.specs.declared.answer.Answer.TheVariants.{Shown}
 use Rattle.topos_model.specs.categories.Category.{Category}
@@ -17,7 +18,7 @@ pub returns-in_err-seal_formula-clause-stop : goal.returns-in_err-seal_formula-c
 returns-in_err-seal_formula-clause-stop c =
     let so = c.args.so.now in
     let p = err_from_is_err_and c.from_residual.result c.from_residual.ensures.1 in
-    rw (p.1, p.2) (formula_stopped so.world.site.category so c.args.under c.args.ctx.now c.args.phi.now (Show c.args.under c.args.ctx.now c.args.phi.now) refl (needs-Show c.args.under c.args.ctx.now c.args.phi.now)
+    rw (p.1, p.2) (formula_stopped so.world.site.category so c.args.under c.args.ctx.now c.args.phi.now (Show c.args.under c.args.ctx.now c.args.phi.now) refl (needs-Show so.maps c.args.under c.args.ctx.now c.args.phi.now)
     (declares-Show c.args.under c.args.ctx.now c.args.phi.now) c.in_err-seal_formula.field-0.0 c.in_err-seal_formula.ensures.stop)
 
 pub returns-clause-answer : goal.returns-clause-answer
@@ -25,6 +26,8 @@ returns-clause-answer c =
     let so = c.args.so.now in
     let sealed = c.in_ok-seal_formula.ensures.sealed in
     let site : c.seal_formula.new.so.world.site.category ≡ so.world.site.category = ap (λ (w : CountedWorld). w.site.category) sealed.types.grown.is in
-    let all = c.in_ok-stages.ensures.stages ∙ ap₂ (λ (l : List Ty) (k : Category). map (λ at. map tuple_of (shown (world_of c.seal_formula.new.so.world) (reverse l) c.args.phi.now at)) (objects_of k)) c.as_slice.ensures site in
-    formula_answered so.world.site.category so c.args.under c.args.ctx.now c.args.phi.now (Show c.args.under c.args.ctx.now c.args.phi.now) refl (needs-Show c.args.under c.args.ctx.now c.args.phi.now)
+    let all = c.in_ok-stages.ensures.stages
+    ∙ ap (λ (m : List MapTable). map (λ at. map tuple_of (shown (world_of c.seal_formula.new.so.world m) (reverse c.as_slice.result.now) c.args.phi.now at)) (objects_of c.seal_formula.new.so.world.site.category)) c.tables.ensures
+    ∙ ap₂ (λ (l : List Ty) (k : Category). map (λ at. map tuple_of (shown (world_of c.seal_formula.new.so.world c.seal_formula.new.so.maps) (reverse l) c.args.phi.now at)) (objects_of k)) c.as_slice.ensures site in
+    formula_answered so.world.site.category so c.args.under c.args.ctx.now c.args.phi.now (Show c.args.under c.args.ctx.now c.args.phi.now) refl (needs-Show so.maps c.args.under c.args.ctx.now c.args.phi.now)
     (declares-Show c.args.under c.args.ctx.now c.args.phi.now) c.seal_formula.new.so (Shown c.in_ok-ctx.ctx c.in_ok-stages.stages) sealed (ap₂ Shown c.in_ok-ctx.ensures all, refl) c.requires.lawful

@@ -1,22 +1,10 @@
 use Rattle.std.proofs.Common.{◌≡◌, length, sum, ap, ◌∙◌, arith}
 use Rattle.topos_model.specs.presheaves.NaturalMaps.{maps}
-use Rattle.topos_session.proofs.ShownFunctors.{too_many, not_too_many, hom_cost, listed_objects, listed_total}
+use Rattle.topos_session.proofs.ShownFunctors.{too_many, not_too_many, hom_cost, maps_shown}
 use Rattle.topos_session.proofs.homs.listed_maps.Goals as goal
 
 pub elements-cost-requires : goal.elements-cost-requires
 elements-cost-requires c = omega (arith, ap length c.sizes.ensures, c.requires.domain.objects, c.objects-objects.ensures.count, c.objects-objects.ensures.few)
-
-pub shapes-requires-clause-objects : goal.shapes-requires-clause-objects
-shapes-requires-clause-objects c =
-    let k = c.args.cat.now in
-    let all = rw c.in-All.is at c.in_ok-list_maps.ensures.all in
-    rw (c.as_slice.ensures, c.sizes-in-All.ensures) (listed_objects k c.args.from.now c.args.to.now c.objects-objects.ensures.lawful c.requires.domain c.requires.codomain c.in-All.maps all)
-
-pub shapes-requires-clause-total : goal.shapes-requires-clause-total
-shapes-requires-clause-total c =
-    let k = c.args.cat.now in
-    let all = rw c.in-All.is at c.in_ok-list_maps.ensures.all in
-    rw (c.as_slice.ensures, c.sizes-in-All.ensures) (listed_total k c.args.from.now c.args.to.now c.objects-objects.ensures.lawful c.requires.domain c.requires.codomain c.in-All.maps all)
 
 pub returns-in-Over-clause-stop : goal.returns-in-Over-clause-stop
 returns-in-Over-clause-stop c =
@@ -35,7 +23,7 @@ returns-in_ok-shapes-in-All-clause-hom c =
     let count : c.len.result ≡ length (maps k X c.args.to.now) = c.len.ensures ∙ ap length all in
     let cost : c.elements-cost.result ≡ sum X.sizes = c.elements-cost.ensures.elements ∙ ap sum c.sizes.ensures in
     record {
-      shapes = rw (c.as_slice.ensures, all) at c.in_ok-shapes-in-All.ensures;
+      shapes = rw (c.as_slice.ensures, all) at c.in_ok-shapes-in-All.ensures ∙ maps_shown c.args.ends.0 c.args.ends.1 (maps k X c.args.to.now);
       cells = rw (count, cost) (hom_cost X (length (maps k X c.args.to.now)));
       within = rw (count, cost) (not_too_many X (length (maps k X c.args.to.now)) c.args.budget (rw all at few));
     }

@@ -1,6 +1,8 @@
 use Rattle.std.proofs.Common.{◌≡◌, map, take}
-use Rattle.topos_model.specs.statements.Answers.{map_shape, functor_map}
+use Rattle.topos_model.specs.statements.Answers.{map_shape}
+use Rattle.topos_session.specs.Declarations.{declared_between}
+use Rattle.topos_session.specs.Constructions.{between}
 use Rattle.topos_session.proofs.homs.shapes.Given as goal
 
 abbrev pub invariant-loop-map : goal.invariant-loop-map
-invariant-loop-map l = l.shapes ≡ map (λ m. map_shape (functor_map l.ends.0 l.ends.1 m)) (take l.map-index l.maps)
+invariant-loop-map l = l.shapes ≡ map (λ m. map_shape (declared_between (between l.ends.0 l.ends.1 m))) (take l.map-index l.maps)

@@ -2,7 +2,7 @@ use Rattle.std.proofs.Common.{◌≡◌, ◌≤◌, true, refl, ap, subst, ◌�
 use Rattle.sealed_world.specs.SealedWorlds.{world_cells}
 use Rattle.topos_session.specs.Progress.{Progress, IsUnderWay}
 use Rattle.topos_session.proofs.DocumentRanges.{ranges}
-use Rattle.topos_session.proofs.StagedStatements.{answered_next, counted_behind_it, stopped_next}
+use Rattle.topos_session.proofs.StagedStatements.{answered_next, counted_behind_it, built_here, stopped_next}
 use Rattle.topos_session.proofs.SessionSteps.{next_in_range, goes_on}
 use Rattle.topos_session.proofs.session.Session.step.Goals as goal
 
@@ -30,7 +30,7 @@ invariant_of-self c =
     let on : i.live ≡ true = ap (λ (p : Progress). p.live) c.self.view_is ∙ c.requires.live in
     let way : IsUnderWay i.doc i.so i.answered true = subst (IsUnderWay i.doc i.so i.answered) on c.self.invariant in
     let fits : world_cells c.answer.new.so.world ≤ c.answer.new.so.world.budget = let w = a.within in let b = a.kept.2 in omega (arith, w, b) in
-    goes_on i.doc i.so i.answered i.live c.get-stmt.result.now c.self.invariant c.get-stmt.ensures c.answer.new.so a.kept.0 a.lawful a.declared a.functors a.maps fits
+    goes_on i.doc i.so i.answered i.live c.get-stmt.result.now c.self.invariant c.get-stmt.ensures c.answer.new.so a.kept.0 a.lawful a.declared a.functors a.maps.0 a.maps.1 (built_here i.doc i.so i.answered way c.get-stmt.result.now c.get-stmt.ensures c.in-Ok.answer c.answer.new.so a) fits
     (counted_behind_it i.doc i.so i.answered way c.get-stmt.result.now c.get-stmt.ensures c.in-Ok.answer c.answer.new.so a)
 
 pub returns-in-Ok-clause-answer : goal.returns-in-Ok-clause-answer
