@@ -14,7 +14,7 @@ use Rattle.topos_model.specs.declared.term.Term.{Term}
 use Rattle.topos_model.specs.declared.value.Val.{Val, El}
 use Rattle.topos_model.specs.declared.doc.Doc.{Doc}
 use Rattle.topos_model.specs.declared.stmt.Stmt.{Stmt}
-use Rattle.topos_model.specs.declared.stmt.Stmt.TheVariants.{Show, Classify, Valid}
+use Rattle.topos_model.specs.declared.stmt.Stmt.TheVariants.{Show, Classify, Valid, Let}
 use Rattle.topos_model.specs.declared.fault.Fault.{Fault}
 use Rattle.topos_model.specs.declared.fault.Fault.TheVariants.{NotASheaf, NotParallel, WrongTopology}
 use Rattle.topos_model.specs.categories.Category.{Category}
@@ -23,8 +23,9 @@ use Rattle.topos_model.specs.types.Values.{number_of}
 use Rattle.topos_model.specs.presheaves.Maps.{Components}
 use Rattle.topos_model.specs.categories.Filling.{filled_category}
 use Rattle.topos_model.specs.topologies.Sheaves.{sheaf_fault}
+use Rattle.topos_model.specs.formulas.Typing.{typed}
 use Rattle.topos_model.specs.statements.Needs.{named, under, term_needs, terms_of, types_of, is_functor, first_no_sheaf}
-use Rattle.topos_model.specs.statements.StatementFaults.{applied, is_foreign, foreign_map_fault, formula_fault, typing_fault}
+use Rattle.topos_model.specs.statements.StatementFaults.{applied, is_foreign, foreign_map_fault, formula_fault, term_fault, size_fault, typing_fault}
 use Rattle.topos_model.specs.statements.Declarations.{Declared, DeclaredMap, site_of, map_ends, world_under, functor_at, map_at, ends_at, domain_at, codomain_at, components_at}
 use Rattle.topos_model.specs.statements.Answers.{element_pairs}
 use Rattle.topos_model.specs.statements.Refusals.{foreign_refusal, sheaf_refusal, term_refusal, ends_fit, refusal}
@@ -34,7 +35,7 @@ use Rattle.formula_answers.specs.Formulas.{world_of}
 use Rattle.topos_session.specs.declared.declarations.Declarations.{Declarations}
 use Rattle.topos_session.specs.Declarations.{declared_map, with_counted, AreLawful}
 use Rattle.topos_session.specs.Constructions.{between_functors, from, to, table}
-use Rattle.topos_session.specs.Statements.{no_sheaf_among, formula_refusal}
+use Rattle.topos_session.specs.Statements.{no_sheaf_among, refusal_in_turn, formula_refusal, formula_needs, map_needs, term_map_fault}
 use Rattle.topos_session.proofs.MadeFunctors.{pairs_at}
 
 -- the images of elements that stand in pairs
@@ -147,35 +148,43 @@ module _ (doc : Doc) (so : Declarations) (types : List (ℕ × List Ty)) where
         first_none (λ m. some_if (is_foreign made (under stmt) m) (WrongTopology m)) (flat_map (λ s. applied s.1) (terms_of stmt))
         (λ m i. ap (λ j. some_if (is_foreign made j m) (WrongTopology m)) first ∙ ap (λ b. some_if b (WrongTopology m)) (own_map so.world so.maps m))
 
-    -- a formula is refused for its types, and for a presheaf that is no sheaf
-    module _ (j : ℕ) (ctx : Ctx) (φ : Term) (first : j ≡ 0) where
-      abbrev Γ : List Ty
-      Γ = reverse ctx.types
-
+    -- a statement with a term is refused for its term, and for a presheaf that is no sheaf
+    module _ (j : ℕ) (first : j ≡ 0) where
       or_none : (o : Option Fault) → or_else o None ≡ o
       or_none None = refl
       or_none (Some fault) = refl
 
-      -- the refusals that a statement about it has in turn
-      in_turn : (stmt : Stmt) → types_of (map_ends d) stmt ≡ term_needs (map_ends d) Γ φ ++ [] → under stmt ≡ j → typing_fault (map_ends d) stmt ≡ or_else (formula_fault (map_ends d) (Γ, φ)) None
+      -- the refusals that it has in turn
+      in_turn : (stmt : Stmt) (fault : Option Fault) (needed : List Ty) → types_of (map_ends d) stmt ≡ needed ++ [] → under stmt ≡ j → typing_fault (map_ends d) stmt ≡ fault
+          → ends_fit doc d stmt ≡ true → or_else (some_if (not (ends_fit doc d stmt)) NotParallel) (term_refusal doc d stmt) ≡ refusal_in_turn so.world j fault needed
+      unfolding term_refusal refusal_in_turn
+      in_turn stmt fault needed counted place typing fit =
+          rw (fit, no_foreign_map stmt (place ∙ first), sheaves_same stmt needed (place ∙ first) (counted ∙ append-nil needed), typing, first) refl
+
+      formula_turn : (stmt : Stmt) (ctx : Ctx) (φ : Term) → types_of (map_ends d) stmt ≡ term_needs (map_ends d) (reverse ctx.types) φ ++ [] → under stmt ≡ j
+          → typing_fault (map_ends d) stmt ≡ or_else (formula_fault (map_ends d) (reverse ctx.types, φ)) None
           → ends_fit doc d stmt ≡ true → or_else (some_if (not (ends_fit doc d stmt)) NotParallel) (term_refusal doc d stmt) ≡ formula_refusal so.world so.maps j ctx φ
-      unfolding term_refusal formula_refusal
-      in_turn stmt counted place typing fit =
-          let needed = counted ∙ append-nil (term_needs (map_ends d) Γ φ) ∙ ap (λ e. term_needs e Γ φ) ends_known in
-          let fault = typing ∙ or_none (formula_fault (map_ends d) (Γ, φ)) ∙ ap (λ e. formula_fault e (Γ, φ)) ends_known in
-          rw (fit, no_foreign_map stmt (place ∙ first), sheaves_same stmt (term_needs (ends_of so.maps) Γ φ) (place ∙ first) needed, fault, first) refl
+      formula_turn stmt ctx φ counted place typing fit =
+          in_turn stmt (formula_fault (ends_of so.maps) (reverse ctx.types, φ)) (formula_needs so.maps ctx φ) (counted ∙ ap (λ e. term_needs e (reverse ctx.types) φ ++ []) ends_known) place
+          (typing ∙ or_none (formula_fault (map_ends d) (reverse ctx.types, φ)) ∙ ap (λ e. formula_fault e (reverse ctx.types, φ)) ends_known) fit
 
-      pub show_refusal : refusal doc d (Show j ctx φ) ≡ formula_refusal so.world so.maps j ctx φ
+      pub show_refusal : (ctx : Ctx) (φ : Term) → refusal doc d (Show j ctx φ) ≡ formula_refusal so.world so.maps j ctx φ
       unfolding refusal types_of terms_of under typing_fault ends_fit
-      show_refusal = in_turn (Show j ctx φ) refl refl refl refl
+      show_refusal ctx φ = formula_turn (Show j ctx φ) ctx φ refl refl refl refl
 
-      pub classify_refusal : refusal doc d (Classify j ctx φ) ≡ formula_refusal so.world so.maps j ctx φ
+      pub classify_refusal : (ctx : Ctx) (φ : Term) → refusal doc d (Classify j ctx φ) ≡ formula_refusal so.world so.maps j ctx φ
       unfolding refusal types_of terms_of under typing_fault ends_fit
-      classify_refusal = in_turn (Classify j ctx φ) refl refl refl refl
+      classify_refusal ctx φ = formula_turn (Classify j ctx φ) ctx φ refl refl refl refl
 
-      pub valid_refusal : refusal doc d (Valid j ctx φ) ≡ formula_refusal so.world so.maps j ctx φ
+      pub valid_refusal : (ctx : Ctx) (φ : Term) → refusal doc d (Valid j ctx φ) ≡ formula_refusal so.world so.maps j ctx φ
       unfolding refusal types_of terms_of under typing_fault ends_fit
-      valid_refusal = in_turn (Valid j ctx φ) refl refl refl refl
+      valid_refusal ctx φ = formula_turn (Valid j ctx φ) ctx φ refl refl refl refl
+
+      pub let_refusal : (m : ℕ) (T : Ty) (t : Term) → refusal doc d (Let j m T t) ≡ refusal_in_turn so.world j (term_map_fault so.maps T t) (map_needs so.maps T t)
+      unfolding refusal types_of terms_of under typing_fault ends_fit term_map_fault
+      let_refusal m T t =
+          in_turn (Let j m T t) (term_map_fault so.maps T t) (map_needs so.maps T t) (ap (λ e. term_needs e (T ∷ []) t ++ []) ends_known) refl
+          (ap (λ e. or_else (term_fault e (T ∷ [], t)) (size_fault (typed e (T ∷ []) t))) ends_known) refl
 
     -- the world of a statement under the first topology
     pub world_is : (j : ℕ) → j ≡ 0 → world_of so.world so.maps ≡ world_under doc d j

@@ -1,5 +1,5 @@
 -- Statements about a formula: why they are refused, what they count, and that they answer.
-use Rattle.std.proofs.Common.{◌≡◌, ℕ, ◌-◌, ◌<◌, ◌≤◌, Bool, true, false, not, ◌&&◌, eqb, inl, inr, List, [], reverse, length, flat_map, is_none, Option, Some, None, Ok, Err, refl, sym, ap, subst, ◌∙◌, arith, drop, get_or, ap₂, ◌+◌, ◌∷◌}
+use Rattle.std.proofs.Common.{◌≡◌, ◌↔◌, ℕ, ◌-◌, ◌<◌, ◌≤◌, Bool, true, false, not, ◌&&◌, eqb, inl, inr, List, [], reverse, length, flat_map, is_none, Option, Some, None, Ok, Err, refl, sym, ap, subst, ◌∙◌, arith, drop, get_or, ap₂, ◌+◌, ◌∷◌}
 use Rattle.std.proofs.lemmas.Bool.{cases_lt, cases_Bool, true≢false, eq-eqb, ne_eqb}
 use Rattle.std.proofs.lemmas.List.{append-nil}
 use Rattle.std.proofs.lemmas.List.FromFn.{length-range_with_len, get_or-range_with_len}
@@ -14,7 +14,6 @@ use Rattle.topos_model.specs.declared.ty.Ty.{Ty, Base, Omega}
 use Rattle.topos_model.specs.declared.ty.Ty.TheBlock.{hidden-the_row-Ty-0}
 use Rattle.topos_model.specs.declared.term.Term.{Term}
 use Rattle.topos_model.specs.declared.context.Ctx.{Ctx}
-use Rattle.topos_model.specs.declared.context.MapTy.{MapTy}
 use Rattle.topos_model.specs.declared.context.MapTable.{MapTable}
 use Rattle.topos_model.specs.declared.stmt.Stmt.{Stmt}
 use Rattle.topos_model.specs.declared.stmt.Stmt.TheVariants.{Show, Classify, Valid}
@@ -26,7 +25,7 @@ use Rattle.topos_model.specs.types.Types.{Presheaf}
 use Rattle.topos_model.specs.types.SameType.{same_type}
 use Rattle.topos_model.specs.Laws.{IsCategory, IsTopology}
 use Rattle.topos_model.specs.formulas.Typing.{typed}
-use Rattle.topos_model.specs.statements.Needs.{parts, needs, types_of, terms_of, is_functor, first_no_sheaf}
+use Rattle.topos_model.specs.statements.Needs.{parts, needs, types_of, terms_of, term_needs, is_functor, first_no_sheaf}
 use Rattle.topos_model.specs.statements.StatementFaults.{formula_fault}
 use Rattle.functor_store.specs.declared.fault.StoreFault.{StoreFault}
 use Rattle.functor_store.specs.declared.fault.StoreFault.TheVariants.{Over, NoMemory as OutOfMemory}
@@ -40,11 +39,11 @@ use Rattle.formula_answers.specs.MapTables.{ends_of}
 use Rattle.topos_session.specs.declared.declarations.Declarations.{Declarations}
 use Rattle.topos_session.specs.declared.stop.Stop.{Stop}
 use Rattle.topos_session.specs.declared.stop.Stop.TheVariants as stop
-use Rattle.topos_session.specs.Ranges.{declares, is_formula_in_range}
+use Rattle.topos_session.specs.Ranges.{declares}
 use Rattle.topos_session.specs.Functors.{AreFunctors, functor_at}
 use Rattle.topos_session.specs.Declarations.{AreLawful}
-use Rattle.topos_session.specs.Statements.{no_sheaf_among, formula_refusal, formula_needs, refusal_over, AnswersOver, IsTyped, IsTypeStop, IsSheafStop, IsFormulaSealed, IsFormulaStop, IsAnsweredOver, IsStoppedOver, by_types, type_stop, store_stop}
-use Rattle.topos_session.proofs.FormulaStatements.{names_declared, needs_sheaves}
+use Rattle.topos_session.specs.Statements.{no_sheaf_among, formula_refusal, formula_needs, refusal_over, AnswersOver, IsTypeStop, IsSheafStop, AreSealed, IsSealStop, IsTermSealed, IsTermStop, refusal_in_turn, IsFormulaSealed, IsFormulaStop, IsAnsweredOver, IsStoppedOver, by_types, type_stop, store_stop}
+use Rattle.topos_session.proofs.FormulaStatements.{needs_sheaves}
 use Rattle.topos_session.proofs.LawfulDeclarations.{lawful_sealed}
 
 -- what a test finds depends on the members alone
@@ -108,15 +107,7 @@ module _ (w : CountedWorld) (types : List Ty) where
   unfolding found_from
   found_nowhere n past = first_left-end tested (range_with_len 0 (length w.functors)) n (omega (arith, past, long))
 
-module _ (tables : List MapTable) (under : ℕ) (ctx : Ctx) (φ : Term) where
-  abbrev ends : List MapTy
-  ends = ends_of tables
-
-  -- why a formula is refused
-  pub formula_unbuilt : (w : CountedWorld) → (under ≡ 0 → ⊥) → formula_refusal w tables under ctx φ ≡ Some NotBuilt
-  unfolding formula_refusal
-  formula_unbuilt w other = rw (ne_eqb under 0 other) refl
-
+module _ (tables : List MapTable) (ctx : Ctx) (φ : Term) where
   pub typing_stops : (fault : TypeFault) → IsFaultOf (typed (ends_of tables) (reverse ctx.types) φ) fault → IsTypeStop tables ctx φ (type_stop fault)
   unfolding formula_fault
   typing_stops (Expected S T) h = rw h refl
@@ -129,86 +120,103 @@ module _ (tables : List MapTable) (under : ℕ) (ctx : Ctx) (φ : Term) where
   unfolding formula_fault
   no_formula T found other = rw (found, other) refl
 
--- a formula over what is declared, under the first topology
-module _ (so : Declarations) (under : ℕ) (ctx : Ctx) (φ : Term) (first : under ≡ 0) where
-  abbrev needed : List Ty
-  needed = formula_needs so.maps ctx φ
+  pub well_typed : typed (ends_of tables) (reverse ctx.types) φ ≡ Ok Omega → formula_fault (ends_of tables) (reverse ctx.types, φ) ≡ None
+  unfolding formula_fault same_type hidden-the_row-Ty-0 Carrier.hidden
+  well_typed typing = rw typing refl
 
-  -- a fault of its types refuses it
-  pub type_stops : (s : Stop) → IsTypeStop so.maps ctx φ s → IsFormulaStop under ctx φ so s
-  unfolding formula_refusal
-  type_stops (stop.Refused fault) h = rw (eq-eqb under 0 first, h) refl
-  type_stops stop.Budget h = absurd h
-  type_stops stop.NoMemory h = tt
+-- types that are sealed, or not: what the search and the sealing came to
+module _ (so : Declarations) (types : List Ty) where
+  pub sheaf_stop : (s : Stop) → IsSheafStop so.world (flat_map parts types) s → IsSealStop types so s
+  sheaf_stop (stop.Refused fault) h = h
+  sheaf_stop stop.Budget h = absurd h
+  sheaf_stop stop.NoMemory h = tt
 
-  -- one that has none is refused for a presheaf that is no sheaf alone
-  well_typed : typed (ends_of so.maps) (reverse ctx.types) φ ≡ Ok Omega → formula_refusal so.world so.maps under ctx φ ≡ no_sheaf_among so.world needed
-  unfolding formula_refusal formula_fault same_type hidden-the_row-Ty-0 Carrier.hidden
-  well_typed typing = rw (eq-eqb under 0 first, typing) refl
+  pub store_stops : no_sheaf_among so.world (flat_map parts types) ≡ None → (fault : StoreFault) →
+      IsOverExactly {A = Unit {0}} (Err fault) (so.world.budget < cells_with so.world (flat_map parts types)) → IsSealStop types so (store_stop fault)
+  store_stops sheaves Over over = (sheaves, over)
+  store_stops sheaves OutOfMemory over = tt
 
-  module _ (types : List Ty) (is : IsTyped so.maps ctx φ types) where
-    -- the types that are listed cost the same, with their parts
-    same_cost : cells_with so.world needed ≡ cells_with so.world (flat_map parts types)
-    same_cost =
-        let w = so.world in
-        let more = no_less [] (flat_map parts types) needed w w (not_grown [] w) (λ T i u. inr ((is.counted T).1 i)) in
-        let less = no_more [] (flat_map parts types) needed w w (not_grown [] w) (λ T n. absurd n) (λ T i. (is.counted T).0 i) in
-        omega (arith, more, less)
+  pub types_sealed : (mid : Declarations) → no_sheaf_among so.world (flat_map parts types) ≡ None → mid.maps ≡ so.maps → IsGrownBy (flat_map parts types) so.world mid.world →
+      (so.world.budget < cells_with so.world (flat_map parts types) → ⊥) → world_cells mid.world ≤ mid.world.budget → AreSealed types so mid
+  types_sealed mid sheaves maps grown fit within =
+      let budget : mid.world.budget ≡ so.world.budget = ap (λ (w : CountedWorld). w.budget) grown.grown.is in
+      record { sheaves = sheaves; maps = maps; grown = grown; fit = not_over fit; within = omega (arith, within, budget) }
+    where
+      not_over : {b c : ℕ} → (c < b → ⊥) → b ≤ c
+      not_over {b} {c} h = elim (cases_lt c b) [ inl over ↦ absurd (h over) | inr fits ↦ fits ]
 
-    same_growth : (mid : CountedWorld) → IsGrownBy (flat_map parts types) so.world mid → IsGrownBy needed so.world mid
-    same_growth mid grown = record {
-      grown = grown_more (flat_map parts types) so.world needed mid (λ T i. (is.counted T).0 i) grown.grown;
-      all = λ T i u. grown.all T ((is.counted T).1 i) u;
-    }
+-- a statement with a term, over what is declared
+module _ (so : Declarations) (under : ℕ) (fault : Option Fault) (needed : List Ty) where
+  pub other_topology : (under ≡ 0 → ⊥) → refusal_in_turn so.world under fault needed ≡ Some NotBuilt
+  unfolding refusal_in_turn
+  other_topology other = rw (ne_eqb under 0 other) refl
 
-    same_sheaves : no_sheaf_among so.world needed ≡ no_sheaf_among so.world (flat_map parts types)
-    same_sheaves = among_same so.world needed (flat_map parts types) (λ T i. (is.counted T).1 i) (λ T i. (is.counted T).0 i)
+  module _ (first : under ≡ 0) where
+    -- a fault of its term refuses it
+    pub fault_refuses : (found : Fault) → fault ≡ Some found → refusal_in_turn so.world under fault needed ≡ Some found
+    unfolding refusal_in_turn
+    fault_refuses found h = rw (eq-eqb under 0 first, h) refl
 
-    pub sheaf_stops : (s : Stop) → IsSheafStop so.world (flat_map parts types) s → IsFormulaStop under ctx φ so s
-    sheaf_stops (stop.Refused fault) h = well_typed is.formula ∙ same_sheaves ∙ h
-    sheaf_stops stop.Budget h = absurd h
-    sheaf_stops stop.NoMemory h = tt
+    module _ (faultless : fault ≡ None) (types : List Ty) (counted : (T : Ty) → In (flat_map parts types) T ↔ In needed T) where
+      -- one that has none is refused for a presheaf that is no sheaf alone
+      for_sheaves : refusal_in_turn so.world under fault needed ≡ no_sheaf_among so.world needed
+      unfolding refusal_in_turn
+      for_sheaves = rw (eq-eqb under 0 first, faultless) refl
 
-    module _ (sheaves : no_sheaf_among so.world (flat_map parts types) ≡ None) where
-      accepted_here : formula_refusal so.world so.maps under ctx φ ≡ None
-      accepted_here = well_typed is.formula ∙ same_sheaves ∙ sheaves
+      -- the types that are listed cost the same, with their parts
+      same_cost : cells_with so.world needed ≡ cells_with so.world (flat_map parts types)
+      same_cost =
+          let w = so.world in
+          let more = no_less [] (flat_map parts types) needed w w (not_grown [] w) (λ T i u. inr ((counted T).1 i)) in
+          let less = no_more [] (flat_map parts types) needed w w (not_grown [] w) (λ T n. absurd n) (λ T i. (counted T).0 i) in
+          omega (arith, more, less)
 
-      pub types_over : (fault : StoreFault) → IsOverExactly {A = Unit {0}} (Err fault) (so.world.budget < cells_with so.world (flat_map parts types)) → IsFormulaStop under ctx φ so (store_stop fault)
-      types_over Over over = (accepted_here, omega (arith, over, same_cost))
-      types_over OutOfMemory over = tt
+      same_growth : (mid : CountedWorld) → IsGrownBy (flat_map parts types) so.world mid → IsGrownBy needed so.world mid
+      same_growth mid grown = record {
+        grown = grown_more (flat_map parts types) so.world needed mid (λ T i. (counted T).0 i) grown.grown;
+        all = λ T i u. grown.all T ((counted T).1 i) u;
+      }
 
-      module _ (range : is_formula_in_range (length so.world.functors) (length so.maps) ctx φ ≡ true) (k : Category) (lawful : AreLawful k so) where
-        named : (n : ℕ) → In needed (Base n) → n < length so.world.functors
-        named n i = names_declared so.world.site so.world.functors so.maps lawful.maps ctx φ range n i
+      same_sheaves : no_sheaf_among so.world needed ≡ no_sheaf_among so.world (flat_map parts types)
+      same_sheaves = among_same so.world needed (flat_map parts types) (λ T i. (counted T).1 i) (λ T i. (counted T).0 i)
 
-        pub types_named : (n : ℕ) → In (flat_map parts types) (Base n) → n < length so.world.functors
-        types_named n i = named n ((is.counted (Base n)).0 i)
+      pub seal_stops : (s : Stop) → IsSealStop types so s → IsTermStop under fault needed so s
+      seal_stops (stop.Refused found) h = for_sheaves ∙ same_sheaves ∙ h
+      seal_stops stop.Budget h = (for_sheaves ∙ same_sheaves ∙ h.0, let over = h.1 in omega (arith, over, same_cost))
+      seal_stops stop.NoMemory h = tt
 
-        pub formula_sealed : (mid : Declarations) → mid.maps ≡ so.maps → IsGrownBy (flat_map parts types) so.world mid.world → (so.world.budget < cells_with so.world (flat_map parts types) → ⊥)
-            → world_cells mid.world ≤ mid.world.budget → IsCategory so.world.site.category → IsTopology so.world.site → IsFormulaSealed under ctx φ so mid
-        formula_sealed mid maps grown fit within category top =
-            let by = same_growth mid.world grown in
-            let site : mid.world.site ≡ so.world.site = ap (λ (w : CountedWorld). w.site) by.grown.is in
-            let functors : mid.world.functors ≡ so.world.functors = ap (λ (w : CountedWorld). w.functors) by.grown.is in
-            let budget : mid.world.budget ≡ so.world.budget = ap (λ (w : CountedWorld). w.budget) by.grown.is in
-            let are : AreFunctors so.world.site.category so.world.functors = subst (λ k. AreFunctors k so.world.functors) (sym lawful.category) lawful.functors in
-            record {
-              accepted = accepted_here;
-              maps = maps;
-              types = by;
-              types_fit = not_over same_cost fit;
-              within = omega (arith, within, budget);
-              formula = record {
-                maps = rw (site, functors, maps) lawful.maps;
-                typing = rw maps is.formula;
-                named = λ n i. subst (λ (fs : List Presheaf). n < length fs) (sym functors) (named n (subst (λ (m : List MapTable). In (formula_needs m ctx φ) (Base n)) maps i));
-                counted = subst (λ (m : List MapTable). HasTypes (formula_needs m ctx φ) mid.world) (sym maps) by.all;
-                sheaves = rw (site, functors, maps) (needs_sheaves so.world.site category top so.world.functors are (ends_of so.maps) (reverse ctx.types) φ named (found_none so.world needed (same_sheaves ∙ sheaves)));
-              };
-            }
-          where
-            not_over : {a b c : ℕ} → a ≡ b → (c < b → ⊥) → a ≤ c
-            not_over {a} {b} {c} e h = elim (cases_lt c b) [ inl over ↦ absurd (h over) | inr fits ↦ omega (arith, fits, e) ]
+      -- where the types are sealed, the term is over the world
+      pub term_sealed : (Γ : List Ty) (t : Term) (U : Ty) (k : Category) → typed (ends_of so.maps) Γ t ≡ Ok U → needed ≡ term_needs (ends_of so.maps) Γ t → AreLawful k so →
+          ((n : ℕ) → In needed (Base n) → n < length so.world.functors) → IsCategory so.world.site.category → IsTopology so.world.site → (mid : Declarations) → AreSealed types so mid →
+          IsTermSealed under fault needed Γ t U so mid
+      term_sealed Γ t U k typing is lawful named category top mid sealed =
+          let by = same_growth mid.world sealed.grown in
+          let site : mid.world.site ≡ so.world.site = ap (λ (w : CountedWorld). w.site) by.grown.is in
+          let functors : mid.world.functors ≡ so.world.functors = ap (λ (w : CountedWorld). w.functors) by.grown.is in
+          let are : AreFunctors so.world.site.category so.world.functors = subst (λ k. AreFunctors k so.world.functors) (sym lawful.category) lawful.functors in
+          let none : no_sheaf_among so.world (term_needs (ends_of so.maps) Γ t) ≡ None = subst (λ l. no_sheaf_among so.world l ≡ None) is (same_sheaves ∙ sealed.sheaves) in
+          let low : (n : ℕ) → In (term_needs (ends_of so.maps) Γ t) (Base n) → n < length so.world.functors = subst (λ l. (n : ℕ) → In l (Base n) → n < length so.world.functors) is named in
+          record {
+            accepted = for_sheaves ∙ same_sheaves ∙ sealed.sheaves;
+            maps = sealed.maps;
+            types = by;
+            types_fit = let fit = sealed.fit in omega (arith, fit, same_cost);
+            within = sealed.within;
+            term = record {
+              maps = rw (site, functors, sealed.maps) lawful.maps;
+              typing = rw sealed.maps typing;
+              named = rw (functors, sealed.maps) low;
+              counted = subst (λ l. HasTypes l mid.world) (is ∙ ap (λ (m : List MapTable). term_needs (ends_of m) Γ t) (sym sealed.maps)) by.all;
+              sheaves = rw (site, functors, sealed.maps) (needs_sheaves so.world.site category top so.world.functors are (ends_of so.maps) Γ t low (found_none so.world (term_needs (ends_of so.maps) Γ t) none));
+            };
+          }
+
+-- a fault of its types refuses a formula
+pub type_stops : (so : Declarations) (under : ℕ) (ctx : Ctx) (φ : Term) → under ≡ 0 → (s : Stop) → IsTypeStop so.maps ctx φ s → IsFormulaStop under ctx φ so s
+type_stops so under ctx φ first (stop.Refused found) h =
+    fault_refuses so under (formula_fault (ends_of so.maps) (reverse ctx.types, φ)) (formula_needs so.maps ctx φ) first found h
+type_stops so under ctx φ first stop.Budget h = absurd h
+type_stops so under ctx φ first stop.NoMemory h = tt
 
 -- a statement about the formula
 module _ (k : Category) (so : Declarations) (under : ℕ) (ctx : Ctx) (φ : Term) (stmt : Stmt) (refusal_is : refusal_over k so stmt ≡ formula_refusal so.world so.maps under ctx φ) (needs_are : needs (ends_of so.maps) stmt ≡ formula_needs so.maps ctx φ)

@@ -17,7 +17,7 @@ use Rattle.topos_model.specs.declared.context.Ctx.{Ctx}
 use Rattle.topos_model.specs.declared.context.MapTy.{MapTy}
 use Rattle.topos_model.specs.declared.context.MapTable.{MapTable}
 use Rattle.topos_model.specs.declared.stmt.Stmt.{Stmt}
-use Rattle.topos_model.specs.declared.stmt.Stmt.TheVariants.{Presheaf as PresheafStmt, Map, Product, Coproduct, Equalizer, Coequalizer, Pullback, Pushout, Image, Empty, Sheaf, Hom, Show, Classify, Valid}
+use Rattle.topos_model.specs.declared.stmt.Stmt.TheVariants.{Presheaf as PresheafStmt, Map, Product, Coproduct, Equalizer, Coequalizer, Pullback, Pushout, Image, Empty, Sheaf, Hom, Show, Classify, Valid, Let}
 use Rattle.topos_model.specs.topologies.Cover.{Site}
 use Rattle.topos_model.specs.topologies.Sheaves.{IsSheaf, OfSheaves, sheaf_fault}
 use Rattle.topos_model.specs.Laws.{IsCategory, IsTopology}
@@ -50,15 +50,21 @@ module _ (s : Site) (functors : List Presheaf) where
       let first = are 0 (omega arith) in
       rw (first.domain, first.codomain, ends_in_range tables (λ n low. are (suc n) (omega (arith, low)))) refl
 
-  -- the presheaves that a formula over a context needs, both in range, are declared
-  pub names_declared : (tables : List MapTable) → AreMapTables s functors tables → (ctx : Ctx) (φ : Term) → is_formula_in_range (length functors) (length tables) ctx φ ≡ true →
-      (m : ℕ) → In (term_needs (ends_of tables) (reverse ctx.types) φ) (Base m) → m < length functors
-  unfolding is_formula_in_range
-  names_declared tables are ctx φ range m i =
+  -- the presheaves that a term over a context needs, both in range, are declared
+  pub names_declared : (tables : List MapTable) → AreMapTables s functors tables → (Γ : List Ty) (t : Term) → list_all (is_type_in_range (length functors)) Γ ≡ true →
+      is_term_in_range (length functors) (length tables) t ≡ true → (m : ℕ) → In (term_needs (ends_of tables) Γ t) (Base m) → m < length functors
+  names_declared tables are Γ t context range m i =
       let n = length functors in
-      names_in_range n (ends_of tables) (ends_in_range tables are) (reverse ctx.types) φ
-      (subst (λ l. is_term_in_range n l φ ≡ true) (sym (length-map tables (λ m. m.ends))) (and_parts _ _ range).1)
-      (each_all (is_type_in_range n) (reverse ctx.types) (λ T j. all_each (is_type_in_range n) ctx.types T (and_parts _ _ range).0 (In-reverse ctx.types T j))) m i
+      names_in_range n (ends_of tables) (ends_in_range tables are) Γ t (subst (λ l. is_term_in_range n l t ≡ true) (sym (length-map tables (λ m. m.ends))) range) context m i
+
+-- the context and the term of a formula are in range
+pub context_range : (n l : ℕ) (ctx : Ctx) (φ : Term) → is_formula_in_range n l ctx φ ≡ true → list_all (is_type_in_range n) (reverse ctx.types) ≡ true
+unfolding is_formula_in_range
+context_range n l ctx φ range = each_all (is_type_in_range n) (reverse ctx.types) (λ T j. all_each (is_type_in_range n) ctx.types T (and_parts _ _ range).0 (In-reverse ctx.types T j))
+
+pub formula_range : (n l : ℕ) (ctx : Ctx) (φ : Term) → is_formula_in_range n l ctx φ ≡ true → is_term_in_range n l φ ≡ true
+unfolding is_formula_in_range
+formula_range n l ctx φ range = (and_parts _ _ range).1
 
 -- a type is of sheaves where the presheaves that it names are sheaves
 module _ (s : Site) (functors : List Presheaf) where
@@ -151,6 +157,7 @@ unfolding needs types_of terms_of is_in_range is_built
 needs_settled maps more objects ends n (Show under ctx φ) range built = formula_stable maps more n ctx φ range
 needs_settled maps more objects ends n (Classify under ctx φ) range built = formula_stable maps more n ctx φ range
 needs_settled maps more objects ends n (Valid under ctx φ) range built = formula_stable maps more n ctx φ range
+needs_settled maps more objects ends n (Let under m T t) range built = ap (λ l. l ++ []) (needs_stable n maps more (T ∷ []) t (and_parts _ _ range).1)
 needs_settled maps more objects ends n (PresheafStmt functor raw) range built = refl
 needs_settled maps more objects ends n (Map m x y raw) range built = refl
 needs_settled maps more objects ends n (Product x y z p q) range built = refl

@@ -20,4 +20,6 @@ pub mod StagedStatements
 pub mod RunSteps
 pub mod CellsSoFar
 pub mod NoTypes
+pub mod TypeNodes
+pub mod TermMaps
 mod WorkedRuns

@@ -1,5 +1,5 @@
 -- The refusals and the answers of the statements that are run are those of the run.
-use Rattle.std.proofs.Common.{◌≡◌, ℕ, ◌<◌, Bool, true, false, not, ◌&&◌, eqb, List, [], ◌∷◌, ◌++◌, map, reverse, length, Option, Some, None, refl, sym, ap, ap₂, ◌∙◌, subst}
+use Rattle.std.proofs.Common.{◌≡◌, ℕ, ◌<◌, Bool, true, false, not, ◌&&◌, eqb, List, [], ◌∷◌, ◌++◌, map, reverse, length, Option, Some, None, Ok, refl, sym, ap, ap₂, ◌∙◌, subst}
 use Rattle.std.proofs.lemmas.Bool.{true≢false, and_parts, eqb-true, ltb-true}
 use Rattle.std.proofs.lemmas.List.{map-append}
 use Rattle.finite_lists.specs.First.{or_else, some_if}
@@ -15,7 +15,7 @@ use Rattle.topos_model.specs.declared.raw.RawFunctor.{RawFunctor}
 use Rattle.topos_model.specs.declared.raw.RawMap.{RawMap}
 use Rattle.topos_model.specs.declared.doc.Doc.{Doc}
 use Rattle.topos_model.specs.declared.stmt.Stmt.{Stmt}
-use Rattle.topos_model.specs.declared.stmt.Stmt.TheVariants.{Presheaf, Map, Product, Coproduct, Equalizer, Coequalizer, Pullback, Pushout, Image, Empty, Sheaf, Hom, Show, Classify, Valid}
+use Rattle.topos_model.specs.declared.stmt.Stmt.TheVariants.{Presheaf, Map, Product, Coproduct, Equalizer, Coequalizer, Pullback, Pushout, Image, Empty, Sheaf, Hom, Show, Classify, Valid, Let}
 use Rattle.topos_model.specs.declared.answer.Answer.{Answer}
 use Rattle.topos_model.specs.declared.answer.Answer.TheVariants.{Built, Shown, Classified, Verdict}
 use Rattle.topos_model.specs.declared.fault.Fault.{Fault}
@@ -33,10 +33,12 @@ use Rattle.topos_model.specs.types.SameType.{same_type}
 use Rattle.topos_model.specs.statements.Needs.{named, under, terms_of, types_of}
 use Rattle.topos_model.specs.statements.Cells.{is_named, objects_of}
 use Rattle.topos_model.specs.statements.StatementFaults.{foreign_map_fault, typing_fault}
+use Rattle.topos_model.specs.formulas.Typing.{typed}
 use Rattle.topos_model.specs.formulas.Forcing.{World, shown}
-use Rattle.formula_answers.specs.MapTables.{table_at}
-use Rattle.topos_model.specs.statements.Declarations.{Declared, DeclaredMap, category_of, site_of, map_ends, functor_at, ends_at, domain_at, codomain_at, components_at}
-use Rattle.topos_model.specs.statements.Answers.{tuple_of, unforced, classified, sheaf_answer, shape_of, map_shape, map_under, functor_map, Makes, Answers}
+use Rattle.formula_answers.specs.MapTables.{ends_of, table_at}
+use Rattle.formula_answers.specs.Formulas.{world_of}
+use Rattle.topos_model.specs.statements.Declarations.{Declared, DeclaredMap, category_of, site_of, map_ends, world_under, functor_at, ends_at, domain_at, codomain_at, components_at}
+use Rattle.topos_model.specs.statements.Answers.{tuple_of, type_found, values_of, unforced, classified, sheaf_answer, shape_of, map_shape, map_under, functor_map, Makes, Answers}
 use Rattle.topos_model.specs.statements.Refusals.{foreign_refusal, term_refusal, ends_fit, refusal, late_refusal, IsRefusal}
 use Rattle.topos_session.specs.Ranges.{is_in_range}
 use Rattle.topos_session.specs.Built.{is_built}
@@ -45,10 +47,10 @@ use Rattle.topos_session.specs.declared.declarations.Declarations.{Declarations}
 use Rattle.topos_session.specs.Declarations.{declared_between, declared_map, with_counted, AreLawful}
 use Rattle.topos_session.specs.Declarations as session
 use Rattle.topos_session.specs.Constructions.{is_construction, between, between_functors, from, to, table, fit}
-use Rattle.topos_session.specs.Statements.{AnswersOver, Builds, formula_refusal, refusal_over}
+use Rattle.topos_session.specs.Statements.{AnswersOver, Builds, Defines, refusal_in_turn, refusal_over}
 use Rattle.topos_session.proofs.MadeFunctors.{named_is, first_of_three, maps_declared, equalizer_range, coequalizer_range, pullback_range, pushout_range, image_range}
 use Rattle.topos_session.proofs.LawfulDeclarations.{natural_between, declared_later}
-use Rattle.topos_session.proofs.DeclaredMaps.{ends_are, domain_is, codomain_is, table_is, no_sheaf_asked, show_refusal, classify_refusal, valid_refusal, world_is}
+use Rattle.topos_session.proofs.DeclaredMaps.{ends_are, domain_is, codomain_is, table_is, no_sheaf_asked, show_refusal, classify_refusal, valid_refusal, let_refusal, ends_known, world_is}
 
 -- tests that are the same where others pass
 both_same : (a b c d p q r s : Bool) → (a ≡ true → c ≡ true → p ≡ q) → (b ≡ true → d ≡ true → r ≡ s) → (a && b && (c && d) && p && r) ≡ (a && b && (c && d) && (q && s))
@@ -162,9 +164,10 @@ module _ (doc : Doc) (so : Declarations) (site : so.world.site ≡ site_of doc 0
   refusal_is (Pushout m n z p q) range built =
       let w = pushout_range k.objects k.ends (length fs) (length so.maps) m n z p q range in
       same_fit _ (unrefused (Pushout m n z p q) refl refl refl) _ (pushout_fit m n w.first w.second z p q)
-  refusal_is (Show under ctx φ) range built = show_refusal doc so types site under ctx φ (eqb-true under 0 built)
-  refusal_is (Classify under ctx φ) range built = classify_refusal doc so types site under ctx φ (eqb-true under 0 built)
-  refusal_is (Valid under ctx φ) range built = valid_refusal doc so types site under ctx φ (eqb-true under 0 built)
+  refusal_is (Show under ctx φ) range built = show_refusal doc so types site under (eqb-true under 0 built) ctx φ
+  refusal_is (Classify under ctx φ) range built = classify_refusal doc so types site under (eqb-true under 0 built) ctx φ
+  refusal_is (Valid under ctx φ) range built = valid_refusal doc so types site under (eqb-true under 0 built) ctx φ
+  refusal_is (Let under m T t) range built = let_refusal doc so types site under (eqb-true under 0 built) m T t
   refusal_is _ range built = cc
 
   -- a statement that is run has its refusal for itself, and none that waits
@@ -185,6 +188,7 @@ module _ (doc : Doc) (so : Declarations) (site : so.world.site ≡ site_of doc 0
   as_refusal (Show under ctx φ) o built e = sym e
   as_refusal (Classify under ctx φ) o built e = sym e
   as_refusal (Valid under ctx φ) o built e = sym e
+  as_refusal (Let under m T t) o built e = sym e
   as_refusal _ o built e = cc
 
   pub no_late_refusal : (stmt : Stmt) (types : List (ℕ × List Ty)) → is_built stmt ≡ true → late_refusal doc (with_counted so types) stmt ≡ None
@@ -204,6 +208,7 @@ module _ (doc : Doc) (so : Declarations) (site : so.world.site ≡ site_of doc 0
   no_late_refusal (Show under ctx φ) types built = refl
   no_late_refusal (Classify under ctx φ) types built = refl
   no_late_refusal (Valid under ctx φ) types built = refl
+  no_late_refusal (Let under m T t) types built = refl
   no_late_refusal _ types built = cc
 
   built_if : (b : Bool) (o : Option Fault) → or_else (some_if (not b) NotBuilt) o ≡ None → b ≡ true
@@ -216,7 +221,7 @@ module _ (doc : Doc) (so : Declarations) (site : so.world.site ≡ site_of doc 0
 
   -- what is accepted is run, and what is not run is refused as not built
   pub built_of : (stmt : Stmt) → refusal_over k so stmt ≡ None → is_built stmt ≡ true
-  unfolding is_built is_construction formula_refusal
+  unfolding is_built is_construction refusal_in_turn
   built_of (Presheaf functor raw) accepted = refl
   built_of (Map m x y raw) accepted = refl
   built_of (Product x y z p q) accepted = refl
@@ -232,10 +237,11 @@ module _ (doc : Doc) (so : Declarations) (site : so.world.site ≡ site_of doc 0
   built_of (Show under ctx φ) accepted = built_if _ _ accepted
   built_of (Classify under ctx φ) accepted = built_if _ _ accepted
   built_of (Valid under ctx φ) accepted = built_if _ _ accepted
+  built_of (Let under m T t) accepted = built_if _ _ accepted
   built_of _ accepted = cc
 
   pub not_built_of : (stmt : Stmt) → is_built stmt ≡ false → refusal_over k so stmt ≡ Some NotBuilt
-  unfolding is_built is_construction formula_refusal
+  unfolding is_built is_construction refusal_in_turn
   not_built_of (Presheaf functor raw) out = cc
   not_built_of (Map m x y raw) out = cc
   not_built_of (Product x y z p q) out = cc
@@ -251,6 +257,7 @@ module _ (doc : Doc) (so : Declarations) (site : so.world.site ≡ site_of doc 0
   not_built_of (Show under ctx φ) out = rw out refl
   not_built_of (Classify under ctx φ) out = rw out refl
   not_built_of (Valid under ctx φ) out = rw out refl
+  not_built_of (Let under m T t) out = rw out refl
   not_built_of _ out = refl
 
   -- a functor that is made with its maps
@@ -344,6 +351,22 @@ module _ (doc : Doc) (so : Declarations) (site : so.world.site ≡ site_of doc 0
       over.0 ∙ ap (λ (w : World). Verdict ctx (map (λ c. map tuple_of (unforced w (reverse ctx.types) φ c)) (objects_of k))) (world_is doc so types site under (eqb-true under 0 built)),
       ap (λ (so : Declarations). with_counted so types) over.1,
     )
+
+    let_answers : (under m : ℕ) (T : Ty) (t : Term) → is_built (Let under m T t) ≡ true → AnswersOver k so (Let under m T t) answer after → Answers doc d (Let under m T t) answer next
+    unfolding category_of is_built world_under filled_category site_of
+    let_answers under m T t built (quiet, defines) =
+        let table = defines.table in
+        let same : (E : List MapTy) → E ≡ ends_of so.maps → typed E (T ∷ []) t ≡ Ok defines.codomain = λ E e. ap (λ e. typed e (T ∷ []) t) e ∙ defines.typing in
+        let ends : ◌≡◌ {A = DeclaredMap} (declared_map so.world table) (map_under 0 T defines.codomain (map (values_of (world_of so.world so.maps) T t) (objects_of so.world.site.category))) =
+        ap₂ (λ (e : MapTy) (p : List (List (Val × Val))). map_under 0 e.dom e.cod p) defines.map.ends defines.map.pairs in
+        let here : ◌≡◌ {A = DeclaredMap} (declared_map so.world table) (map_under under T (type_found (typed (map_ends d) (T ∷ []) t)) (map (values_of (world_under doc d under) T t) (objects_of k))) =
+        ends ∙ ap (λ (w : World). map_under 0 T defines.codomain (map (values_of w T t) (objects_of w.site.category))) (world_is doc so types site under (eqb-true under 0 built))
+        ∙ ap₂ (λ (j : ℕ) (U : Ty). map_under j T U (map (values_of (world_under doc d under) T t) (objects_of k))) (sym (eqb-true under 0 built)) (sym (ap type_found (same (map_ends d) (ends_known doc so types)))) in (
+          quiet,
+          ap (λ (so : Declarations). with_counted so types) defines.declared
+              ∙ ap (λ (l : List DeclaredMap). record { functors = fs; maps = l; cat_functors = []; on_functors = []; types = types; others = so.world.charges })
+              (map-append (declared_map so.world) so.maps (table ∷ []) ∙ ap (λ a. map (declared_map so.world) so.maps ++ a ∷ []) here),
+        )
 
     product_answers : (x y z p q : ℕ) → Ranged (Product x y z p q) → Builds k so (Product x y z p q) answer after → Answers doc d (Product x y z p q) answer next
     unfolding category_of is_construction
@@ -471,6 +494,7 @@ module _ (doc : Doc) (so : Declarations) (site : so.world.site ≡ site_of doc 0
     answers_are (Show under ctx φ) range built accepted over = show_answers under ctx φ built over
     answers_are (Classify under ctx φ) range built accepted over = classify_answers under ctx φ built over
     answers_are (Valid under ctx φ) range built accepted over = valid_answers under ctx φ built over
+    answers_are (Let under m T t) range built accepted over = let_answers under m T t built over
     answers_are (Product x y z p q) range built accepted b = product_answers x y z p q range b
     answers_are (Coproduct x y z p q) range built accepted b = coproduct_answers x y z p q range b
     answers_are (Empty z) range built accepted b = empty_answers z range b
@@ -505,6 +529,7 @@ unfolding is_built under
 built_under (Show j ctx φ) built = eqb-true j 0 built
 built_under (Classify j ctx φ) built = eqb-true j 0 built
 built_under (Valid j ctx φ) built = eqb-true j 0 built
+built_under (Let j m T t) built = eqb-true j 0 built
 built_under (Presheaf functor raw) built = refl
 built_under (Map m x y raw) built = refl
 built_under (Product x y z p q) built = refl

@@ -7,17 +7,19 @@ use Rattle.topos_model.specs.declared.raw.RawAlong.{RawAlong}
 use Rattle.topos_model.specs.declared.raw.RawFunctor.{RawFunctor}
 use Rattle.topos_model.specs.declared.raw.RawEntry.{RawEntry}
 use Rattle.topos_model.specs.declared.raw.RawMap.{RawMap}
+use Rattle.topos_model.specs.declared.ty.Ty.{Ty}
 use Rattle.topos_model.specs.declared.context.Ctx.{Ctx}
+use Rattle.term_ranges.specs.Ranges.{is_type_in_range, is_term_in_range}
 use Rattle.topos_model.specs.declared.term.Term.{Term}
 use Rattle.topos_model.specs.declared.stmt.Stmt.{Stmt}
-use Rattle.topos_model.specs.declared.stmt.Stmt.TheVariants.{Presheaf, Map, Sheaf, Hom, Show, Classify, Valid}
+use Rattle.topos_model.specs.declared.stmt.Stmt.TheVariants.{Presheaf, Map, Sheaf, Hom, Show, Classify, Valid, Let}
 use Rattle.topos_model.specs.categories.Category.{Category, dom, cod}
 use Rattle.topos_model.specs.presheaves.PresheafFaults.{IsPresheafListing}
 use Rattle.topos_model.specs.presheaves.MapFaults.{has_image, IsMapListing}
 use Rattle.topos_model.specs.statements.Form.{along_fits, is_presheaf_listing, is_map_listing}
 use Rattle.topos_session.specs.Ranges.{is_formula_in_range, is_in_range}
 use Rattle.topos_session.proofs.DistinctNumbers.{distinct_numbers}
-use Rattle.topos_session.proofs.StatementForms.{range-Presheaf, range-Map, range-Sheaf, range-Hom, range-Show, range-Classify, range-Valid}
+use Rattle.topos_session.proofs.StatementForms.{range-Presheaf, range-Map, range-Sheaf, range-Hom, range-Show, range-Classify, range-Valid, range-Let}
 
 -- a listed presheaf has sizes for all objects, and restrictions of elements to elements
 along_in_range : (k : Category) (raw : RawFunctor) (a : RawAlong) → along_fits k.objects k.ends raw.sizes a ≡ true →
@@ -105,3 +107,6 @@ classified_range objects ends n l stmt under ctx φ is range = sym (range-Classi
 
 pub judged_range : (objects : ℕ) (ends : List (ℕ × ℕ)) (n l : ℕ) (stmt : Stmt) (under : ℕ) (ctx : Ctx) (φ : Term) → stmt ≡ Valid under ctx φ → is_in_range objects ends n l stmt ≡ true → is_formula_in_range n l ctx φ ≡ true
 judged_range objects ends n l stmt under ctx φ is range = sym (range-Valid objects ends n l under ctx φ) ∙ ap (is_in_range objects ends n l) (sym is) ∙ range
+
+pub defined_range : (objects : ℕ) (ends : List (ℕ × ℕ)) (n l : ℕ) (stmt : Stmt) (under m : ℕ) (T : Ty) (t : Term) → stmt ≡ Let under m T t → is_in_range objects ends n l stmt ≡ true → (is_type_in_range n T ≡ true) × (is_term_in_range n l t ≡ true)
+defined_range objects ends n l stmt under m T t is range = and_parts _ _ (sym (range-Let objects ends n l under m T t) ∙ ap (is_in_range objects ends n l) (sym is) ∙ range)

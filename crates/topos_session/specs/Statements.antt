@@ -1,5 +1,5 @@
 -- What the statements that are run answer over declared functors and maps, and why they are refused.
-use Rattle.std.specs.Prelude.{◌≡◌, ◌↔◌, ℕ, ◌-◌, ◌≤◌, ◌<◌, true, false, not, eqb, List, map, ◌++◌, reverse, length, flat_map, is_none, Option, Some, None, Ok, ⊤}
+use Rattle.std.specs.Prelude.{◌≡◌, ◌↔◌, ℕ, ◌-◌, ◌≤◌, ◌<◌, true, false, not, eqb, List, [], ◌∷◌, map, ◌++◌, reverse, length, flat_map, is_none, Option, Some, None, Ok, ⊤}
 use Rattle.finite_lists.specs.First.{or_else, some_if}
 use Rattle.topos_model.specs.declared.stmt.Stmt.{Stmt}
 use Rattle.topos_model.specs.declared.stmt.Stmt.TheVariants as statement
@@ -26,12 +26,13 @@ use Rattle.finite_lists.specs.Members.{In}
 use Rattle.topos_model.specs.topologies.Sheaves.{sheaf_fault}
 use Rattle.topos_model.specs.formulas.Typing.{typed}
 use Rattle.topos_model.specs.formulas.Forcing.{shown}
-use Rattle.topos_model.specs.statements.StatementFaults.{formula_fault}
+use Rattle.topos_model.specs.statements.StatementFaults.{formula_fault, term_fault, size_fault}
 use Rattle.term_typing.specs.declared.fault.TypeFault.{TypeFault}
 use Rattle.term_typing.specs.declared.fault.TypeFault.TheVariants as type_fault
 use Rattle.topos_model.specs.declared.context.MapTable.{MapTable}
 use Rattle.formula_answers.specs.MapTables.{ends_of}
-use Rattle.formula_answers.specs.Formulas.{world_of, IsFormulaOver}
+use Rattle.formula_answers.specs.Formulas.{world_of, IsTermOver}
+use Rattle.term_objects.specs.TermObjects.{IsTermMap}
 use Rattle.topos_model.specs.categories.Filling.{filled_presheaf}
 use Rattle.topos_model.specs.presheaves.Maps.{IsNatural}
 use Rattle.topos_model.specs.presheaves.NaturalMaps.{maps}
@@ -80,6 +81,14 @@ pub record Builds (k : Category) (so : Declarations) (stmt : Stmt) (answer : Ans
   pub shown : answer ≡ Built (shape_of k functor) (map (λ m. map_shape (declared_between m)) maps)
   pub declared : after ≡ with_functor so functor maps
 
+-- a map that a term defines is declared
+pub record Defines (so : Declarations) (T : Ty) (t : Term) (after : Declarations) : Type 0 where
+  pub codomain : Ty
+  pub typing : typed (ends_of so.maps) (T ∷ []) t ≡ Ok codomain
+  pub table : MapTable
+  pub map : IsTermMap so.world so.maps T t codomain table
+  pub declared : after ≡ with_map so table
+
 -- what a statement answers, and what is declared behind it
 abbrev pub AnswersOver : Category → Declarations → Stmt → Answer → Declarations → Type 0
 AnswersOver k so (statement.Presheaf functor raw) answer after = (answer ≡ Quiet) × (after ≡ with_presheaf so (filled_presheaf k raw))
@@ -96,6 +105,7 @@ AnswersOver k so (statement.Classify under ctx φ) answer after =
     (answer ≡ Classified ctx (map (classified (world_of so.world so.maps) (reverse ctx.types) φ) (objects_of k))) × (after ≡ so)
 AnswersOver k so (statement.Valid under ctx φ) answer after =
     (answer ≡ Verdict ctx (map (λ c. map tuple_of (unforced (world_of so.world so.maps) (reverse ctx.types) φ c)) (objects_of k))) × (after ≡ so)
+AnswersOver k so (statement.Let under m T t) answer after = (answer ≡ Quiet) × Defines so T t after
 AnswersOver k so stmt answer after = Builds k so stmt answer after
 
 -- the first presheaf that occurs in types and is no sheaf
@@ -106,11 +116,20 @@ no_sheaf_among w types = first_no_sheaf (λ n. is_none (sheaf_fault w.site (func
 abbrev pub formula_needs : List MapTable → Ctx → Term → List Ty
 formula_needs maps ctx φ = term_needs (ends_of maps) (reverse ctx.types) φ
 
--- a formula under another topology than the first is refused, then one that has a fault of types or is of another type than truth values, and then one that speaks of a presheaf that is no sheaf
-unfoldable pub formula_refusal : CountedWorld → List MapTable → ℕ → Ctx → Term → Option Fault
-formula_refusal w maps under ctx φ =
-    or_else (some_if (not (eqb under 0)) refused.NotBuilt)
-    (or_else (formula_fault (ends_of maps) (reverse ctx.types, φ)) (no_sheaf_among w (formula_needs maps ctx φ)))
+-- a statement with a term is refused under another topology than the first, then for the first fault of its term, and then for the first presheaf that is no sheaf among the types that it counts
+unfoldable pub refusal_in_turn : CountedWorld → ℕ → Option Fault → List Ty → Option Fault
+refusal_in_turn w under fault needed = or_else (some_if (not (eqb under 0)) refused.NotBuilt) (or_else fault (no_sheaf_among w needed))
+
+-- a formula has a fault of types, or is of another type than truth values
+abbrev pub formula_refusal : CountedWorld → List MapTable → ℕ → Ctx → Term → Option Fault
+formula_refusal w maps under ctx φ = refusal_in_turn w under (formula_fault (ends_of maps) (reverse ctx.types, φ)) (formula_needs maps ctx φ)
+
+-- the types that a term over one variable counts, and its fault: one of types, or a type that is too large
+abbrev pub map_needs : List MapTable → Ty → Term → List Ty
+map_needs maps T t = term_needs (ends_of maps) (T ∷ []) t
+
+unfoldable pub term_map_fault : List MapTable → Ty → Term → Option Fault
+term_map_fault maps T t = or_else (term_fault (ends_of maps) (T ∷ [], t)) (size_fault (typed (ends_of maps) (T ∷ []) t))
 
 -- why a statement is refused
 abbrev pub refusal_over : Category → Declarations → Stmt → Option Fault
@@ -121,6 +140,7 @@ refusal_over k so (statement.Hom x y) = None
 refusal_over k so (statement.Show under ctx φ) = formula_refusal so.world so.maps under ctx φ
 refusal_over k so (statement.Classify under ctx φ) = formula_refusal so.world so.maps under ctx φ
 refusal_over k so (statement.Valid under ctx φ) = formula_refusal so.world so.maps under ctx φ
+refusal_over k so (statement.Let under m T t) = refusal_in_turn so.world under (term_map_fault so.maps T t) (map_needs so.maps T t)
 refusal_over k so stmt = elim (is_construction stmt) [ true ↦ some_if (not (fit so.maps stmt)) refused.NotParallel | false ↦ Some refused.NotBuilt ]
 
 -- the types that a statement counts are sealed, and nothing else has changed
@@ -145,20 +165,60 @@ IsSheafStop w types (stop.Refused fault) = no_sheaf_among w types ≡ Some fault
 IsSheafStop w types stop.Budget = ⊥
 IsSheafStop w types stop.NoMemory = ⊤
 
--- a formula is accepted, all its types are sealed and within the budget, and nothing else has changed
-pub record IsFormulaSealed (under : ℕ) (ctx : Ctx) (φ : Term) (so mid : Declarations) : Type 0 where
-  pub accepted : formula_refusal so.world so.maps under ctx φ ≡ None
+-- a term over one variable, and types that have the parts that it counts
+pub record IsMapTyped (maps : List MapTable) (T : Ty) (t : Term) (types : List Ty) : Type 0 where
+  pub codomain : Ty
+  pub typing : typed (ends_of maps) (T ∷ []) t ≡ Ok codomain
+  pub faultless : term_map_fault maps T t ≡ None
+  pub counted : (U : Ty) → In (flat_map parts types) U ↔ In (map_needs maps T t) U
+
+abbrev pub IsMapTypeStop : List MapTable → Ty → Term → Stop → Type 0
+IsMapTypeStop maps T t (stop.Refused fault) = term_map_fault maps T t ≡ Some fault
+IsMapTypeStop _ T t stop.Budget = ⊥
+IsMapTypeStop _ T t stop.NoMemory = ⊤
+
+-- types are sealed of which none names a presheaf that is no sheaf, they are within the budget, and nothing else has changed
+pub record AreSealed (types : List Ty) (so mid : Declarations) : Type 0 where
+  pub sheaves : no_sheaf_among so.world (flat_map parts types) ≡ None
   pub maps : mid.maps ≡ so.maps
-  pub types : IsGrownBy (formula_needs so.maps ctx φ) so.world mid.world
-  pub types_fit : cells_with so.world (formula_needs so.maps ctx φ) ≤ so.world.budget
+  pub grown : IsGrownBy (flat_map parts types) so.world mid.world
+  pub fit : cells_with so.world (flat_map parts types) ≤ so.world.budget
   pub within : world_cells mid.world ≤ so.world.budget
-  pub formula : IsFormulaOver mid.world mid.maps (reverse ctx.types) φ
+
+-- one of them is no sheaf, or they have more cells than the budget
+abbrev pub IsSealStop : List Ty → Declarations → Stop → Type 0
+IsSealStop types so (stop.Refused fault) = no_sheaf_among so.world (flat_map parts types) ≡ Some fault
+IsSealStop types so stop.Budget = (no_sheaf_among so.world (flat_map parts types) ≡ None) × (so.world.budget < cells_with so.world (flat_map parts types))
+IsSealStop types so stop.NoMemory = ⊤
+
+-- a statement with a term is accepted, all types that it counts are sealed and within the budget, and nothing else has changed
+pub record IsTermSealed (under : ℕ) (fault : Option Fault) (needed Γ : List Ty) (t : Term) (U : Ty) (so mid : Declarations) : Type 0 where
+  pub accepted : refusal_in_turn so.world under fault needed ≡ None
+  pub maps : mid.maps ≡ so.maps
+  pub types : IsGrownBy needed so.world mid.world
+  pub types_fit : cells_with so.world needed ≤ so.world.budget
+  pub within : world_cells mid.world ≤ so.world.budget
+  pub term : IsTermOver mid.world mid.maps Γ t U
 
 -- it is refused, or its types have more cells than the budget
+abbrev pub IsTermStop : ℕ → Option Fault → List Ty → Declarations → Stop → Type 0
+IsTermStop under fault needed so (stop.Refused refusal) = refusal_in_turn so.world under fault needed ≡ Some refusal
+IsTermStop under fault needed so stop.Budget = (refusal_in_turn so.world under fault needed ≡ None) × (so.world.budget < cells_with so.world needed)
+IsTermStop under fault needed so stop.NoMemory = ⊤
+
+-- of a formula, and of a term over one variable
+abbrev pub IsFormulaSealed : ℕ → Ctx → Term → Declarations → Declarations → Type 0
+IsFormulaSealed under ctx φ so mid = IsTermSealed under (formula_fault (ends_of so.maps) (reverse ctx.types, φ)) (formula_needs so.maps ctx φ) (reverse ctx.types) φ Omega so mid
+
 abbrev pub IsFormulaStop : ℕ → Ctx → Term → Declarations → Stop → Type 0
-IsFormulaStop under ctx φ so (stop.Refused fault) = formula_refusal so.world so.maps under ctx φ ≡ Some fault
-IsFormulaStop under ctx φ so stop.Budget = (formula_refusal so.world so.maps under ctx φ ≡ None) × (so.world.budget < cells_with so.world (formula_needs so.maps ctx φ))
-IsFormulaStop under ctx φ so stop.NoMemory = ⊤
+IsFormulaStop under ctx φ so stop = IsTermStop under (formula_fault (ends_of so.maps) (reverse ctx.types, φ)) (formula_needs so.maps ctx φ) so stop
+
+pub record IsMapSealed (under : ℕ) (T : Ty) (t : Term) (so mid : Declarations) : Type 0 where
+  pub codomain : Ty
+  pub sealed : IsTermSealed under (term_map_fault so.maps T t) (map_needs so.maps T t) (T ∷ []) t codomain so mid
+
+abbrev pub IsMapStop : ℕ → Ty → Term → Declarations → Stop → Type 0
+IsMapStop under T t so stop = IsTermStop under (term_map_fault so.maps T t) (map_needs so.maps T t) so stop
 
 -- a statement is answered, with this declared before it and behind it
 pub record IsAnsweredOver (k : Category) (so : Declarations) (stmt : Stmt) (answer : Answer) (after : Declarations) : Type 0 where

@@ -15,6 +15,7 @@ use crate::declarations::Declarations;
 use crate::formulas::{classify, judge, show};
 use crate::homs::listed_maps;
 use crate::shapes::built;
+use crate::term_maps::define;
 use functor_store::Over;
 use natural_maps::NatMap;
 use presheaf_core::Functor;
@@ -168,6 +169,12 @@ pub(crate) fn answer(alloc: Global, so: &mut Declarations, stmt: &Stmt) -> Resul
         Stmt::Show { under, ctx, phi } => show(alloc, so, *under, ctx, phi),
         Stmt::Classify { under, ctx, phi } => classify(alloc, so, *under, ctx, phi),
         Stmt::Valid { under, ctx, phi } => judge(alloc, so, *under, ctx, phi),
+        Stmt::Let {
+            under,
+            map,
+            ty,
+            term,
+        } => define(alloc, so, *under, *map, ty, term),
         _ => Err(Stop::Refused(Fault::NotBuilt)),
     }
 }

@@ -1,12 +1,14 @@
 // Statements about a formula.
-ghost use Rattle.std.specs.Prelude.{◌≡◌, ◌^◌, ◌<◌, ◌≤◌, true, [], length, reverse, None, IfOk, IfErr, OnErr, OnOk};
+ghost use Rattle.std.specs.Prelude.{◌≡◌, ◌^◌, ◌<◌, ◌≤◌, ℕ, true, length, None, IfOk, IfErr, OnErr, OnOk};
 ghost use Rattle.std.specs.List.{flat_map};
+ghost use Rattle.finite_lists.specs.Members.{In};
+ghost use Rattle.topos_model.specs.declared.ty.Ty.{Base};
 ghost use Rattle.topos_model.specs.statements.Needs.{parts};
 ghost use Rattle.topos_model.specs.declared.stmt.Stmt.TheVariants as statement;
 ghost use Rattle.sealed_world.specs.SealedWorlds.{world_cells};
 ghost use Rattle.topos_session.specs.Ranges.{is_formula_in_range};
 ghost use Rattle.topos_session.specs.Declarations.{AreLawful, IsKept};
-ghost use Rattle.topos_session.specs.Statements.{no_sheaf_among, IsTyped, IsTypeStop, IsSheafStop, IsFormulaSealed, IsFormulaStop, IsAnsweredOver, IsStoppedOver};
+ghost use Rattle.topos_session.specs.Statements.{no_sheaf_among, IsTyped, IsTypeStop, IsSheafStop, AreSealed, IsSealStop, IsFormulaSealed, IsFormulaStop, IsAnsweredOver, IsStoppedOver};
 
 use crate::Stop;
 use crate::declarations::Declarations;
@@ -47,6 +49,20 @@ fn name_sheaves(alloc: Global, so: &mut Declarations, types: &[Ty]) -> Result<()
     Ok(())
 }
 
+// Seals types that are counted, where none names a presheaf that is no sheaf and they are within the budget.
+pub(crate) fn seal_types(alloc: Global, so: &mut Declarations, types: &[Ty]) -> Result<(), Stop>
+    requires few { length so.old.world.functors < 2 ^ 32 }
+    requires named { (n : ℕ) → In (flat_map parts types.now) (Base n) → n < length so.old.world.functors }
+    ensures sealed { OnOk result (AreSealed types.now so.old so.new) }
+    ensures stop { IfErr result (λ stop. IsSealStop types.now so.old stop) }
+    ensures unchanged { OnErr result (IsKept so.old so.new) }
+{
+    name_sheaves(alloc, so, types)?;
+    so.world.need(alloc, types)?;
+    let _room = so.world.room();
+    Ok(())
+}
+
 // Seals the types that a formula counts, where it is accepted and they are within the budget.
 fn seal_formula(
     alloc: Global,
@@ -58,7 +74,6 @@ fn seal_formula(
     requires lawful { AreLawful so.old.world.site.category so.old }
     requires range { is_formula_in_range (length so.old.world.functors) (length so.old.maps) ctx.now phi.now ≡ true }
     requires few { length so.old.world.functors < 2 ^ 32 }
-    requires fits { world_cells so.old.world ≤ so.old.world.budget }
     ensures sealed { OnOk result (IsFormulaSealed under ctx.now phi.now so.old so.new) }
     ensures stop { IfErr result (λ stop. IsFormulaStop under ctx.now phi.now so.old stop) }
     ensures unchanged { OnErr result (IsKept so.old so.new) }
@@ -70,10 +85,7 @@ fn seal_formula(
     so.cat().laws();
     let _top = so.world.site().top();
     let types = formula_types(alloc, &so.maps, ctx, phi)?;
-    name_sheaves(alloc, so, types.as_slice())?;
-    so.world.need(alloc, types.as_slice())?;
-    let _room = so.world.room();
-    Ok(())
+    seal_types(alloc, so, types.as_slice())
 }
 
 /// The tuples for which a formula is forced.

@@ -13,6 +13,7 @@ mod run;
 mod session;
 mod shapes;
 mod stop;
+mod term_maps;
 mod topology;
 
 pub use run::{Run, run_document};

@@ -57,6 +57,7 @@ fn declares(stmt: &Stmt) -> Option<(u32, u32)>
         Stmt::Show { .. } => Some((0, 0)),
         Stmt::Classify { .. } => Some((0, 0)),
         Stmt::Valid { .. } => Some((0, 0)),
+        Stmt::Let { .. } => Some((0, 1)),
         _ => None,
     }
 }
@@ -118,6 +119,10 @@ fn is_in_range(
         Stmt::Show { ctx, phi, .. } => Ok(is_formula_in_range(counts, ctx, phi)),
         Stmt::Classify { ctx, phi, .. } => Ok(is_formula_in_range(counts, ctx, phi)),
         Stmt::Valid { ctx, phi, .. } => Ok(is_formula_in_range(counts, ctx, phi)),
+        Stmt::Let { ty, term, .. } => Ok(
+            is_type_in_range(counts.functors, ty)
+                && is_term_in_range(counts.functors, counts.maps, term),
+        ),
         _ => Ok(true),
     }
 }

@@ -13,7 +13,7 @@ use Rattle.topos_session.proofs.formulas.formula_types.Goals as goal
 pub returns-in_err-found-clause-stop : goal.returns-in_err-found-clause-stop
 returns-in_err-found-clause-stop c =
     let p = err_from_is_err_and c.from_residual.result c.from_residual.ensures.1 in
-    rw (p.1, p.2) (typing_stops c.args.maps.now 0 c.args.ctx.now c.args.phi.now c.in_err-found.field-0.0 (subst (λ ends. IsFaultOf (typed ends (reverse c.args.ctx.now.types) c.args.phi.now) c.in_err-found.field-0.0) c.ends.ensures c.in_err-found.ensures.typing))
+    rw (p.1, p.2) (typing_stops c.args.maps.now c.args.ctx.now c.args.phi.now c.in_err-found.field-0.0 (subst (λ ends. IsFaultOf (typed ends (reverse c.args.ctx.now.types) c.args.phi.now) c.in_err-found.field-0.0) c.ends.ensures c.in_err-found.ensures.typing))
 
 pub returns-then-eq-clause-types : goal.returns-then-eq-clause-types
 returns-then-eq-clause-types c = record {
@@ -22,4 +22,4 @@ returns-then-eq-clause-types c = record {
 }
 
 pub returns-clause-stop : goal.returns-clause-stop
-returns-clause-stop c = no_formula c.args.maps.now 0 c.args.ctx.now c.args.phi.now c.in_ok-found.found.ty (ap (λ ends. typed ends (reverse c.args.ctx.now.types) c.args.phi.now) (sym c.ends.ensures) ∙ c.in_ok-found.ensures.typing) (sym c.eq.ensures ∙ c.if-eq.false)
+returns-clause-stop c = no_formula c.args.maps.now c.args.ctx.now c.args.phi.now c.in_ok-found.found.ty (ap (λ ends. typed ends (reverse c.args.ctx.now.types) c.args.phi.now) (sym c.ends.ensures) ∙ c.in_ok-found.ensures.typing) (sym c.eq.ensures ∙ c.if-eq.false)
