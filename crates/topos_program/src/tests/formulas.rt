@@ -4,8 +4,23 @@ use crate::tests::has_report;
 use std::test::Fail;
 
 /// Documents whose statements are about formulas, with their reports.
-const FORMULAS: [(&str, &str, Status); 16] = [
+const FORMULAS: [(&str, &str, Status); 19] = [
     ("valid | false;", "1 valid\ncells 0\n", Status::Done),
+    (
+        "object V, E; arrow s, t : V -> E; presheaf K { at V : a, b; at E : k, l; along s : k -> a, l -> b; along t : k -> b, l -> a; }; map m : K -> K { at V : a -> b, b -> a; at E : k -> l, l -> k; }; show { x : K | m(x) = x }; valid x : K | m(m(x)) = x; valid x : K | not m(x) = x;",
+        "5 show\nV:\nE:\n6 valid\n7 valid\ncells 36\n",
+        Status::Done,
+    ),
+    (
+        "object U; presheaf X { at U : a, b; }; presheaf Y { at U : c; }; map m : X -> Y { at U : a -> c, b -> c; }; valid x : X, y : X | m(x) = m(y); show { x : X, y : Y | m(x) = y and exists z : X . not z = x and m(z) = y }; valid x : X | m(m(x)) = m(x);",
+        "5 valid\n6 show\nU: (a, c) (b, c)\n7 refused 60 expected: X, found: Y\n",
+        Status::Refused,
+    ),
+    (
+        "object U; presheaf X { at U : a; }; map m : X -> X { at U : a -> a; }; valid | true; valid x : X | m(x) = x;",
+        "4 valid\n5 valid\ncells 8\n",
+        Status::Done,
+    ),
     (
         "object A, B, C; arrow f : A -> B; arrow g : B -> C; arrow h : A -> C; valid | true;",
         "5 valid\ncells 38\n",
