@@ -4,8 +4,23 @@ use crate::tests::has_report;
 use std::test::Fail;
 
 /// Documents whose statements are about formulas, with their reports.
-const FORMULAS: [(&str, &str, Status); 19] = [
+const FORMULAS: [(&str, &str, Status); 22] = [
     ("valid | false;", "1 valid\ncells 0\n", Status::Done),
+    (
+        "object V, E; arrow s, t : V -> E; let neg = p : Omega . not p; valid p : Omega | neg(neg(neg(p))) = neg(p); show { p : Omega | p = neg(neg(p)) }; valid p : Omega | neg(neg(p)) = p;",
+        "4 valid\n5 show\nV: ({}) ({id V})\nE: ({}) ({t}) ({s}) ({id E, s, t})\n6 not valid\nE: ({s, t})\ncells 24\n",
+        Status::NotValid,
+    ),
+    (
+        "object U; presheaf X { at U : a; }; let m1 = x : X . (x, x); let m2 = x : X . (m1(x), m1(x));",
+        "cells 6\n",
+        Status::Done,
+    ),
+    (
+        "object U; presheaf X { at U : a; }; map m : X -> X { at U : a -> a; }; let d = x : X . (x, x); equalizer m d as E with i;",
+        "5 refused 70 ends: m, d\n",
+        Status::Refused,
+    ),
     (
         "object V, E; arrow s, t : V -> E; presheaf K { at V : a, b; at E : k, l; along s : k -> a, l -> b; along t : k -> b, l -> a; }; map m : K -> K { at V : a -> b, b -> a; at E : k -> l, l -> k; }; show { x : K | m(x) = x }; valid x : K | m(m(x)) = x; valid x : K | not m(x) = x;",
         "5 show\nV:\nE:\n6 valid\n7 valid\ncells 36\n",
