@@ -86,18 +86,18 @@ module _ (w : CountedWorld) (tables : List MapTable) (i : Interpreter) (serves :
       pub given : AreCounted e (world_of w tables) Γ sizes
       given = subst (λ e. AreCounted e (world_of w tables) Γ sizes) (sym read) (subst (AreCounted (reading i) (world_of w tables) Γ) (sym sized) counted)
 
-      pub truths_known : (truths rows : List (List Bool)) → rows ≡ truths → IsTruthTable (world_of w tables) Γ (forces (world_of w tables) t) truths → AreTruths e (world_of w tables) Γ sizes (forces (world_of w tables) t) rows
-      truths_known truths rows r stands = record { tuples = given; stands = subst (IsTruthTable (world_of w tables) Γ (forces (world_of w tables) t)) (sym r) stands }
+      pub truths_known : (truths : List (List Bool)) → IsTruthTable (world_of w tables) Γ (forces (world_of w tables) t) truths → AreTruths e (world_of w tables) Γ sizes (forces (world_of w tables) t) truths
+      truths_known truths stands = record { tuples = given; stands = stands }
 
       -- so can its values be
       pub type_readable : IsReadable e U
       type_readable = subst (λ e. IsReadable e U) (sym read) (readable U (subst (λ r. In (found r ++ product Γ ∷ Γ) U) (sym h.typing) (inl refl)))
 
-      pub sieves_known : (v : Valued) (rows : List (List ℕ)) → rows ≡ v.numbers → U ≡ Omega → IsValued (world_of w tables) Γ U t v → AreSieves e (world_of w tables) Γ sizes (value (world_of w tables) t) rows
-      sieves_known v rows r formula valued = record {
+      pub sieves_known : (v : Valued) → U ≡ Omega → IsValued (world_of w tables) Γ U t v → AreSieves e (world_of w tables) Γ sizes (value (world_of w tables) t) v.numbers
+      sieves_known v formula valued = record {
         tuples = given;
         omega = subst (IsReadable e) formula type_readable;
-        stands = subst (λ T. IsNumberTable (world_of w tables) Γ T (value (world_of w tables) t) rows) formula (subst (IsNumberTable (world_of w tables) Γ U (value (world_of w tables) t)) (sym r) valued.stands);
+        stands = subst (λ T. IsNumberTable (world_of w tables) Γ T (value (world_of w tables) t) v.numbers) formula valued.stands;
       }
 
     pub some_sizes : 0 < length context.sizes

@@ -35,7 +35,7 @@ fn tuples_where(
         &elements(&interpreter),
         types,
         context.tuples(),
-        truths.as_slice(),
+        &truths,
         forced,
     )
 }
@@ -88,6 +88,6 @@ pub fn classified(
         &elements(&interpreter),
         types,
         context.tuples(),
-        values.numbers.as_slice(),
+        &values.numbers,
     )
 }

@@ -14,7 +14,7 @@ ghost use Rattle.formula_answers.specs.Stages.{kept, with_arrows, AreTruths, Are
 use element_values::{Elements, element_value, tuple_value};
 use std::alloc::Global;
 use topos_model::{NoMemory, Row, Tuple, Ty, Val};
-use truth_tables::{bit, number};
+use truth_tables::{Numbers, Truths, bit, number};
 
 // The tuples at an object that have this truth value.
 fn tuples_at(
@@ -22,7 +22,7 @@ fn tuples_at(
     elements: &Elements<'_>,
     types: &[Ty],
     sizes: &[u32],
-    truths: &[Row<bool>],
+    truths: &Truths,
     c: u32,
     wanted: bool,
 ) -> Result<Row<Tuple>, NoMemory>
@@ -45,7 +45,7 @@ pub(crate) fn tuples_with(
     elements: &Elements<'_>,
     types: &[Ty],
     sizes: &[u32],
-    truths: &[Row<bool>],
+    truths: &Truths,
     wanted: bool,
 ) -> Result<Row<Row<Tuple>>, NoMemory>
     requires objects { length sizes.now < 2 ^ 32 }
@@ -76,7 +76,7 @@ fn sieves_at(
     elements: &Elements<'_>,
     types: &[Ty],
     sizes: &[u32],
-    numbers: &[Row<u32>],
+    numbers: &Numbers,
     c: u32,
 ) -> Result<Row<(Tuple, Row<u32>)>, NoMemory>
     requires object { c < length sizes.now }
@@ -98,7 +98,7 @@ pub(crate) fn tuples_with_sieves(
     elements: &Elements<'_>,
     types: &[Ty],
     sizes: &[u32],
-    numbers: &[Row<u32>],
+    numbers: &Numbers,
 ) -> Result<Row<Row<(Tuple, Row<u32>)>>, NoMemory>
     requires objects { length sizes.now < 2 ^ 32 }
     requires known { (w : World) × (v : ℕ → Assigned → Val) × AreSieves elements.now w (reverse types.now) sizes.now v numbers.now }

@@ -8,7 +8,7 @@ ghost use Rattle.formula_tables.specs.Formulas.{IsFormula};
 use crate::Stages;
 use functor_store::{FunctorId, FunctorStore};
 use std::alloc::Global;
-use topos_model::{NoMemory, Row};
+use topos_model::NoMemory;
 use truth_tables::{Truths, everywhere};
 
 /// Where a property holds along all arrows of some cover: along those of the least one.
@@ -18,7 +18,7 @@ pub fn locally(
     store: &FunctorStore,
     context: FunctorId,
     sizes: &[u32],
-    truths: &[Row<bool>],
+    truths: &Truths,
 ) -> Result<Truths, NoMemory>
     requires objects { length sizes.now < 2 ^ 32 }
     requires parts { (w : World) × (Γ : List Ty) × (φ : Property) × IsFormula w Γ φ stages.now store.now context sizes.now truths.now }
@@ -42,7 +42,7 @@ pub fn always(
     store: &FunctorStore,
     context: FunctorId,
     sizes: &[u32],
-    truths: &[Row<bool>],
+    truths: &Truths,
 ) -> Result<Truths, NoMemory>
     requires objects { length sizes.now < 2 ^ 32 }
     requires parts { (w : World) × (Γ : List Ty) × (φ : Property) × IsFormula w Γ φ stages.now store.now context sizes.now truths.now }

@@ -9,7 +9,7 @@ use crate::Stages;
 use crate::along::{always, locally};
 use functor_store::{FunctorId, FunctorStore};
 use std::alloc::Global;
-use topos_model::{NoMemory, Row};
+use topos_model::NoMemory;
 use truth_tables::{Connective, Quantifier, Truths, combine, constant, quantify, table};
 
 /// What is always forced.
@@ -52,8 +52,8 @@ pub fn connect(
     store: &FunctorStore,
     context: FunctorId,
     sizes: &[u32],
-    left: &[Row<bool>],
-    right: &[Row<bool>],
+    left: &Truths,
+    right: &Truths,
 ) -> Result<Truths, NoMemory>
     requires objects { length sizes.now < 2 ^ 32 }
     requires parts { (w : World) × (Γ : List Ty) × (φ : Property) × (ψ : Property) × AreFormulas w Γ φ ψ stages.now store.now context sizes.now left.now right.now }
@@ -62,8 +62,8 @@ pub fn connect(
     let both = combine(alloc, connective, sizes, left, right)?;
     match connective {
         Connective::And => Ok(both),
-        Connective::Or => locally(alloc, stages, store, context, sizes, both.as_slice()),
-        Connective::Implies => always(alloc, stages, store, context, sizes, both.as_slice()),
+        Connective::Or => locally(alloc, stages, store, context, sizes, &both),
+        Connective::Implies => always(alloc, stages, store, context, sizes, &both),
     }
 }
 
@@ -74,7 +74,7 @@ pub fn negate(
     store: &FunctorStore,
     context: FunctorId,
     sizes: &[u32],
-    truths: &[Row<bool>],
+    truths: &Truths,
 ) -> Result<Truths, NoMemory>
     requires objects { length sizes.now < 2 ^ 32 }
     requires parts { (w : World) × (Γ : List Ty) × (φ : Property) × IsFormula w Γ φ stages.now store.now context sizes.now truths.now }
@@ -89,7 +89,7 @@ pub fn negate(
         context,
         sizes,
         truths,
-        falsity.as_slice(),
+        &falsity,
     )
 }
 
@@ -102,7 +102,7 @@ pub fn quantified(
     context: FunctorId,
     sizes: &[u32],
     widths: &[u32],
-    body: &[Row<bool>],
+    body: &Truths,
 ) -> Result<Truths, NoMemory>
     requires objects { length sizes.now < 2 ^ 32 }
     requires parts { (w : World) × (Γ : List Ty) × (T : Ty) × (φ : Property) × IsBody w Γ T φ stages.now store.now context sizes.now widths.now body.now }
@@ -110,8 +110,8 @@ pub fn quantified(
 {
     let counted = quantify(alloc, quantifier, sizes, widths, body)?;
     match quantifier {
-        Quantifier::Some => locally(alloc, stages, store, context, sizes, counted.as_slice()),
-        Quantifier::Every => always(alloc, stages, store, context, sizes, counted.as_slice()),
-        Quantifier::One => always(alloc, stages, store, context, sizes, counted.as_slice()),
+        Quantifier::Some => locally(alloc, stages, store, context, sizes, &counted),
+        Quantifier::Every => always(alloc, stages, store, context, sizes, &counted),
+        Quantifier::One => always(alloc, stages, store, context, sizes, &counted),
     }
 }

@@ -22,12 +22,12 @@ abbrev pub no_map : MapTable
 no_map = record { ends = record { dom = Omega; cod = Omega }; rows = [] }
 
 module _ (w : World) (maps : List MapTy) (i : Interpreter) (Γ : List Ty) (m : ℕ) (context : Context) (t : Term) (argument : Valued) (h : IsArgument w maps i Γ m context t argument) where
-  pub map_parts : m < length i.maps.now → (table : MapTable) → table ≡ get_or i.maps.now m no_map → (sizes : List ℕ) (rows numbers : List (List ℕ)) →
-      sizes ≡ get_or context.sizes 0 [] → rows ≡ table.rows → numbers ≡ argument.numbers → AreMapParts w Γ m (ends_of maps m).dom (ends_of maps m).cod t sizes rows numbers
-  map_parts low table is sizes rows numbers e r n = record {
+  pub map_parts : m < length i.maps.now → (table : MapTable) → table ≡ get_or i.maps.now m no_map → (sizes : List ℕ) (rows : List (List ℕ)) →
+      sizes ≡ get_or context.sizes 0 [] → rows ≡ table.rows → AreMapParts w Γ m (ends_of maps m).dom (ends_of maps m).cod t sizes rows argument.numbers
+  map_parts low table is sizes rows e r = record {
     counted = e ∙ h.known.scope.known.counted;
     map_stands = subst (AreImages w m (ends_of maps m).dom (ends_of maps m).cod) (sym (r ∙ ap (λ x. x.rows) is)) (h.known.knows.images m (omega (arith, low, h.known.knows.maps_long)));
-    arguments_stand = subst (IsNumberTable w Γ (ends_of maps m).dom (value w t)) (sym n) h.stands.stands;
+    arguments_stand = h.stands.stands;
   }
 
   pub map_type : m < length i.maps.now → (table : MapTable) → table ≡ get_or i.maps.now m no_map → table.ends.cod ≡ (ends_of maps m).cod

@@ -1,13 +1,12 @@
 -- Functions, equality and membership in a known context, as the tables of terms take them.
-use Rattle.std.proofs.Common.{◌≡◌, ℕ, List, [], get_or, sym, ap, subst, ◌∙◌}
+use Rattle.std.proofs.Common.{◌≡◌, ℕ, List, [], get_or, ap, subst, ◌∙◌}
 use denote.Hole.Carrier
-use Rattle.topos_model.specs.declared.ty.Ty.{Ty, out-Ty, Pow, Fun}
+use Rattle.topos_model.specs.declared.ty.Ty.{Ty, out-Ty, Fun}
 use Rattle.topos_model.specs.declared.ty.Ty.TheOpen.{Fun as IsFun}
 use Rattle.topos_model.specs.declared.ty.Ty.TheBlock.{shown-the_row-Ty-0}
 use Rattle.topos_model.specs.declared.term.Term.{Term}
 use Rattle.topos_model.specs.declared.context.MapTy.{MapTy}
-use Rattle.topos_model.specs.formulas.Forcing.{World, value}
-use Rattle.truth_tables.specs.Standing.{IsNumberTable}
+use Rattle.topos_model.specs.formulas.Forcing.{World}
 use Rattle.term_tables.specs.Parts.{IsSealed, AreFunctionParts, AreMemberParts, AreAlike}
 use Rattle.internal_interp.specs.declared.context.Context.{Context}
 use Rattle.internal_interp.specs.declared.interpreter.Interpreter.{Interpreter}
@@ -25,28 +24,28 @@ unfolding codomain_of out-Ty Carrier.out shown-the_row-Ty-0 Carrier.shown Carrie
 same_codomain S T S' T' e = ap codomain_of e
 
 module _ (w : World) (maps : List MapTy) (i : Interpreter) (Γ : List Ty) (context : Context) (sizes : List ℕ) (e : sizes ≡ get_or context.sizes 0 []) where
-  pub function_parts : (S T : Ty) (t u : Term) (function argument : Valued) → AreApplied w maps i Γ S T context t u function argument → (id : ℕ) → IsSealed i.store.now function.ty id → (functions arguments : List (List ℕ)) →
-      functions ≡ function.numbers → arguments ≡ argument.numbers → AreFunctionParts w Γ S T t u i.store.now id sizes functions arguments
-  function_parts S T t u function argument h id sealed functions arguments f a = record {
+  pub function_parts : (S T : Ty) (t u : Term) (function argument : Valued) → AreApplied w maps i Γ S T context t u function argument → (id : ℕ) → IsSealed i.store.now function.ty id →
+      AreFunctionParts w Γ S T t u i.store.now id sizes function.numbers argument.numbers
+  function_parts S T t u function argument h id sealed = record {
     context = context_known w maps i Γ context h.known sizes e;
     type = subst (λ U. IsSealed i.store.now U id) h.function_stands.type_is sealed;
-    functions_stand = subst (IsNumberTable w Γ (Fun S T) (value w t)) (sym f) h.function_stands.stands;
-    arguments_stand = subst (IsNumberTable w Γ S (value w u)) (sym a) h.argument_stands.stands;
+    functions_stand = h.function_stands.stands;
+    arguments_stand = h.argument_stands.stands;
   }
 
-  pub equal_parts : (T : Ty) (t u : Term) (left right : Valued) → AreEquated w maps i Γ T context t u left right → (lefts rights : List (List ℕ)) → lefts ≡ left.numbers → rights ≡ right.numbers →
-      AreAlike w Γ T t u sizes lefts rights
-  equal_parts T t u left right h lefts rights l r = record {
+  pub equal_parts : (T : Ty) (t u : Term) (left right : Valued) → AreEquated w maps i Γ T context t u left right →
+      AreAlike w Γ T t u sizes left.numbers right.numbers
+  equal_parts T t u left right h = record {
     counted = e ∙ h.known.scope.known.counted;
-    left_stands = subst (IsNumberTable w Γ T (value w t)) (sym l) h.left_stands.stands;
-    right_stands = subst (IsNumberTable w Γ T (value w u)) (sym r) h.right_stands.stands;
+    left_stands = h.left_stands.stands;
+    right_stands = h.right_stands.stands;
   }
 
-  pub member_parts : (T : Ty) (t u : Term) (element set : Valued) → AreMember w maps i Γ T context t u element set → (id : ℕ) → IsSealed i.store.now set.ty id → (elements sets : List (List ℕ)) →
-      elements ≡ element.numbers → sets ≡ set.numbers → AreMemberParts w Γ T t u i.store.now id sizes elements sets
-  member_parts T t u element set h id sealed elements sets l r = record {
+  pub member_parts : (T : Ty) (t u : Term) (element set : Valued) → AreMember w maps i Γ T context t u element set → (id : ℕ) → IsSealed i.store.now set.ty id →
+      AreMemberParts w Γ T t u i.store.now id sizes element.numbers set.numbers
+  member_parts T t u element set h id sealed = record {
     context = context_known w maps i Γ context h.known sizes e;
     type = subst (λ U. IsSealed i.store.now U id) h.set_stands.type_is sealed;
-    elements_stand = subst (IsNumberTable w Γ T (value w t)) (sym l) h.element_stands.stands;
-    subsets_stand = subst (IsNumberTable w Γ (Pow T) (value w u)) (sym r) h.set_stands.stands;
+    elements_stand = h.element_stands.stands;
+    subsets_stand = h.set_stands.stands;
   }

@@ -18,11 +18,11 @@ use Rattle.omega_object.specs.TruthValues.{closed_sieves}
 use Rattle.formula_tables.specs.Formulas.{IsContext}
 use Rattle.topos_model.specs.topologies.Sheaves.{OfSheaves}
 use Rattle.topos_model.specs.statements.Needs.{found, parts, product, subterms}
-use Rattle.topos_model.specs.formulas.Forcing.{World, meaning, values, value, forces}
+use Rattle.topos_model.specs.formulas.Forcing.{World, meaning, values, forces}
 use Rattle.term_typing.proofs.TypingRules.{rules_are_typed}
 use Rattle.functor_store.specs.Faithful.{Holds, HasElements}
 use Rattle.omega_object.specs.declared.omega.Omega.{Omega as OmegaTables}
-use Rattle.truth_tables.specs.Standing.{IsNumberTable, IsTruthTable}
+use Rattle.truth_tables.specs.Standing.{IsTruthTable}
 use Rattle.truth_tables.specs.Tables.{row}
 use Rattle.functor_store.specs.Store.{functor_at, size_at}
 use Rattle.finite_lists.proofs.DistinctLists.{In-range_from}
@@ -94,19 +94,19 @@ module _ (w : World) (maps : List MapTy) (i : Interpreter) where
     pub has_omega : i.omega ≡ None → ⊥
     has_omega e = let (Ω, is) = (type_served Γ Omega context t known).2 (part_itself Omega) in let f : None ≡ Some Ω = sym e ∙ is in absurd (cc)
 
-    pub truth_values : (v : Valued) → IsValued w Γ Omega t v → (Ω : Bor OmegaTables) → i.omega ≡ Some Ω → (sizes : List ℕ) (numbers : List (List ℕ)) →
-        sizes ≡ get_or context.sizes 0 [] → numbers ≡ v.numbers → AreTruthValues w Γ t Ω.now sizes numbers
-    truth_values v h Ω is sizes numbers e e' = record {
+    pub truth_values : (v : Valued) → IsValued w Γ Omega t v → (Ω : Bor OmegaTables) → i.omega ≡ Some Ω → (sizes : List ℕ) →
+        sizes ≡ get_or context.sizes 0 [] → AreTruthValues w Γ t Ω.now sizes v.numbers
+    truth_values v h Ω is sizes e = record {
       counted = e ∙ known.scope.known.counted;
       truth_values = known.knows.omega Ω is;
       identity = λ c a low m. (means_of Γ Omega context t known).identity c a (record { low = low; fits = In_tuples w Γ c a m });
-      stands = subst (IsNumberTable w Γ Omega _) (sym e') h.stands;
+      stands = h.stands;
     }
 
     -- a formula, and the closed sieves of the arrows along which it is forced
-    pub forced_parts : (truths : List (List Bool)) → IsTruthTable w Γ (forces w t) truths → (Ω : Bor OmegaTables) → i.omega ≡ Some Ω → (k : Category) (sizes : List ℕ) (slice : List (List Bool)) →
-        k ≡ i.site.now.category → sizes ≡ get_or context.sizes 0 [] → slice ≡ truths → AreForced w Γ t k Ω.now i.stages.now i.store.now context.place sizes slice
-    forced_parts truths h Ω is k sizes slice e e' e'' = record {
+    pub forced_parts : (truths : List (List Bool)) → IsTruthTable w Γ (forces w t) truths → (Ω : Bor OmegaTables) → i.omega ≡ Some Ω → (k : Category) (sizes : List ℕ) →
+        k ≡ i.site.now.category → sizes ≡ get_or context.sizes 0 [] → AreForced w Γ t k Ω.now i.stages.now i.store.now context.place sizes truths
+    forced_parts truths h Ω is k sizes e e' = record {
       known = subst (IsContext w Γ i.stages.now i.store.now context.place) (sym e') known.scope.known;
       category = ap (λ s. s.category) known.knows.site ∙ sym e;
       truth_values = known.knows.omega Ω is;
@@ -115,7 +115,7 @@ module _ (w : World) (maps : List MapTy) (i : Interpreter) where
           let means = means_of Γ Omega context t known in
           let sieve = (means.truth refl).sieve c a there in
           (sieve, closed_sieve w c _ (subst (In (values w Omega c)) sieve (means.value.within c a there)));
-      stands = subst (IsTruthTable w Γ (forces w t)) (sym e'') h;
+      stands = h;
     }
 
 -- the widths of a sealed type
@@ -138,23 +138,22 @@ module _ (w : World) (maps : List MapTy) (i : Interpreter) (Γ : List Ty) (conte
   pub held_type : (T : Ty) (t : Term) (v : Valued) → IsKnown w maps i Γ T context t → IsValued w Γ T t v → Holds i.store.now v.ty
   held_type T t v known h = subst (Holds i.store.now) (sym h.type_is) ((type_served w maps i Γ T context t known).1 T (part_itself T))
 
-  pub pair_parts : (S T : Ty) (t u : Term) (left right : Valued) → ArePair w maps i Γ S T context t u left right → (sizes widths : List ℕ) (lefts rights : List (List ℕ)) →
-      sizes ≡ get_or context.sizes 0 [] → widths ≡ widths_of w right.ty → lefts ≡ left.numbers → rights ≡ right.numbers →
-      ArePairParts w Γ S T t u i.store.now sizes widths lefts rights
+  pub pair_parts : (S T : Ty) (t u : Term) (left right : Valued) → ArePair w maps i Γ S T context t u left right → (sizes widths : List ℕ) → sizes ≡ get_or context.sizes 0 [] → widths ≡ widths_of w right.ty →
+      ArePairParts w Γ S T t u i.store.now sizes widths left.numbers right.numbers
   unfolding widths_of
-  pair_parts S T t u left right h sizes widths lefts rights sized wide l r = record {
+  pair_parts S T t u left right h sizes widths sized wide = record {
     context = context_known h.first_known sizes sized;
     product = h.product;
     factor = wide ∙ ap (widths_of w) h.second.type_is;
-    left_stands = subst (IsNumberTable w Γ S (value w t)) (sym l) h.first.stands;
-    right_stands = subst (IsNumberTable w Γ T (value w u)) (sym r) h.second.stands;
+    left_stands = h.first.stands;
+    right_stands = h.second.stands;
   }
 
-  pub pair_table_of : (S T : Ty) (t : Term) (pair : Valued) → IsKnown w maps i Γ (Two S T) context t → IsValued w Γ (Two S T) t pair → (sizes widths : List ℕ) (numbers : List (List ℕ)) →
-      sizes ≡ get_or context.sizes 0 [] → widths ≡ widths_of w T → numbers ≡ pair.numbers → IsPairTable w Γ S T t sizes widths numbers
+  pub pair_table_of : (S T : Ty) (t : Term) (pair : Valued) → IsKnown w maps i Γ (Two S T) context t → IsValued w Γ (Two S T) t pair → (sizes widths : List ℕ) →
+      sizes ≡ get_or context.sizes 0 [] → widths ≡ widths_of w T → IsPairTable w Γ S T t sizes widths pair.numbers
   unfolding widths_of
-  pair_table_of S T t pair known h sizes widths numbers sized wide n = record {
+  pair_table_of S T t pair known h sizes widths sized wide = record {
     counted = sized ∙ known.scope.known.counted;
     factor = wide;
-    stands = subst (IsNumberTable w Γ (Two S T) (value w t)) (sym n) h.stands;
+    stands = h.stands;
   }

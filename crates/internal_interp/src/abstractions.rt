@@ -38,7 +38,7 @@ pub(crate) fn function(
         id,
         context.tuples(),
         widths.as_slice(),
-        body.numbers.as_slice(),
+        &body.numbers,
     )?;
     Ok(Valued { ty: whole, numbers })
 }
@@ -69,7 +69,7 @@ pub(crate) fn set(
         context.tuples(),
         inner.tuples(),
         widths.as_slice(),
-        body.as_slice(),
+        &body,
     )?;
     Ok(Valued { ty: whole, numbers })
 }

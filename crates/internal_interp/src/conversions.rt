@@ -27,7 +27,7 @@ pub(crate) fn truths_of(
     match interpreted {
         Interpreted::Formula(truths) => Ok(truths),
         Interpreted::Value(value) => match interpreter.omega {
-            Some(omega) => formula_table(alloc, omega, context.tuples(), value.numbers.as_slice()),
+            Some(omega) => formula_table(alloc, omega, context.tuples(), &value.numbers),
             None => unreachable!(),
         },
     }
@@ -56,7 +56,7 @@ pub(crate) fn value_of(
                     interpreter.store,
                     context.place,
                     context.tuples(),
-                    truths.as_slice(),
+                    &truths,
                 )?;
                 Ok(Valued {
                     ty: Ty::Omega,

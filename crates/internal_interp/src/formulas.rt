@@ -35,8 +35,8 @@ pub(crate) fn joined(
         interpreter.store,
         context.place,
         context.tuples(),
-        left.as_slice(),
-        right.as_slice(),
+        &left,
+        &right,
     )
 }
 
@@ -57,7 +57,7 @@ pub(crate) fn negated(
         interpreter.store,
         context.place,
         context.tuples(),
-        truths.as_slice(),
+        &truths,
     )
 }
 
@@ -83,6 +83,6 @@ pub(crate) fn bound(
         context.place,
         context.tuples(),
         widths.as_slice(),
-        body.as_slice(),
+        &body,
     )
 }

@@ -31,7 +31,7 @@ pub(crate) fn image(
             alloc,
             context.tuples(),
             table.rows.as_slice(),
-            argument.numbers.as_slice(),
+            &argument.numbers,
         )?;
         let ty = table.ends.cod.copy(alloc)?;
         return Ok(Valued { ty, numbers });

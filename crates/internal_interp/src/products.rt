@@ -30,8 +30,8 @@ pub(crate) fn pair(
         interpreter.store,
         context.tuples(),
         widths.as_slice(),
-        left.numbers.as_slice(),
-        right.numbers.as_slice(),
+        &left.numbers,
+        &right.numbers,
     )?;
     let ty = Ty::Two(Boxed::new(alloc, left.ty)?, Boxed::new(alloc, right.ty)?);
     Ok(Valued { ty, numbers })
@@ -51,12 +51,7 @@ pub(crate) fn first(
     match &pair.ty {
         Ty::Two(left, right) => {
             let widths = widths(alloc, interpreter, right.get())?;
-            let numbers = first_table(
-                alloc,
-                context.tuples(),
-                widths.as_slice(),
-                pair.numbers.as_slice(),
-            )?;
+            let numbers = first_table(alloc, context.tuples(), widths.as_slice(), &pair.numbers)?;
             Ok(Valued {
                 ty: left.get().copy(alloc)?,
                 numbers,
@@ -80,12 +75,7 @@ pub(crate) fn second(
     match &pair.ty {
         Ty::Two(_, right) => {
             let widths = widths(alloc, interpreter, right.get())?;
-            let numbers = second_table(
-                alloc,
-                context.tuples(),
-                widths.as_slice(),
-                pair.numbers.as_slice(),
-            )?;
+            let numbers = second_table(alloc, context.tuples(), widths.as_slice(), &pair.numbers)?;
             Ok(Valued {
                 ty: right.get().copy(alloc)?,
                 numbers,

@@ -35,8 +35,8 @@ pub(crate) fn applied(
                 interpreter.store,
                 id,
                 context.tuples(),
-                function.numbers.as_slice(),
-                argument.numbers.as_slice(),
+                &function.numbers,
+                &argument.numbers,
             )?;
             Ok(Valued {
                 ty: to.get().copy(alloc)?,
@@ -61,12 +61,7 @@ pub(crate) fn equated(
 {
     // What the terms are interpreted over is a condition alone.
     let _ = interpreter;
-    equal_table(
-        alloc,
-        context.tuples(),
-        left.numbers.as_slice(),
-        right.numbers.as_slice(),
-    )
+    equal_table(alloc, context.tuples(), &left.numbers, &right.numbers)
 }
 
 /// Where an element is a member of a set.
@@ -87,7 +82,7 @@ pub(crate) fn member(
         interpreter.store,
         id,
         context.tuples(),
-        element.numbers.as_slice(),
-        set.numbers.as_slice(),
+        &element.numbers,
+        &set.numbers,
     )
 }

@@ -26,12 +26,7 @@ pub fn variable_table(alloc: Global, context: &Context, k: u32) -> Result<Number
     let mut numbers = last_variable(alloc, row_at(sizes, k), row_at(widths, k))?;
     for within in 0..k {
         let outer = k - 1 - within;
-        numbers = outer_variable(
-            alloc,
-            row_at(sizes, outer),
-            row_at(widths, outer),
-            numbers.as_slice(),
-        )?;
+        numbers = outer_variable(alloc, row_at(sizes, outer), row_at(widths, outer), &numbers)?;
     }
     Ok(numbers)
 }

@@ -8,3 +8,4 @@ pub mod TrueRows
 pub mod PartNumbers
 pub mod SubobjectTables
 pub mod OneVariable
+pub mod ReadElements

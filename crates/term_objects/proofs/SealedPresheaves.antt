@@ -30,14 +30,18 @@ module _ (w : CountedWorld) (store : Store) (held : IsStoreOf w store) where
   pub functors_lawful : All (IsFunctor w.site.category) w.functors
   functors_lawful = λ n X low. subst (IsFunctor w.site.category) (get_or_default w.functors n _ X low) (held.faithful.named n (held.presheaves n low)).1
 
-  pub type_held : (T : Ty) → ((n : ℕ) → In (parts T) (Base n) → n < length w.functors) → HasTypes (parts T) w → Holds store T
+  -- a type of a list of types that are all counted
+  pub member_held : (types : List Ty) (T : Ty) → In types T → ((n : ℕ) → In types (Base n) → n < length w.functors) → HasTypes types w → Holds store T
   unfolding is_named
-  type_held (Base n) named counted = held.presheaves n (named n (part_itself (Base n)))
-  type_held One named counted = held.types One (counted One (part_itself One) refl)
-  type_held Omega named counted = held.types Omega (counted Omega (part_itself Omega) refl)
-  type_held (Two' a (one S none) b (one T none)) named counted = held.types (Two' a (one S none) b (one T none)) (counted (Two' a (one S none) b (one T none)) (part_itself (Two' a (one S none) b (one T none))) refl)
-  type_held (Pow' a (one T none)) named counted = held.types (Pow' a (one T none)) (counted (Pow' a (one T none)) (part_itself (Pow' a (one T none))) refl)
-  type_held (Fun' a (one S none) b (one T none)) named counted = held.types (Fun' a (one S none) b (one T none)) (counted (Fun' a (one S none) b (one T none)) (part_itself (Fun' a (one S none) b (one T none))) refl)
+  member_held types (Base n) i named counted = held.presheaves n (named n i)
+  member_held types One i named counted = held.types One (counted One i refl)
+  member_held types Omega i named counted = held.types Omega (counted Omega i refl)
+  member_held types (Two' a (one S none) b (one T none)) i named counted = held.types (Two' a (one S none) b (one T none)) (counted (Two' a (one S none) b (one T none)) i refl)
+  member_held types (Pow' a (one T none)) i named counted = held.types (Pow' a (one T none)) (counted (Pow' a (one T none)) i refl)
+  member_held types (Fun' a (one S none) b (one T none)) i named counted = held.types (Fun' a (one S none) b (one T none)) (counted (Fun' a (one S none) b (one T none)) i refl)
+
+  pub type_held : (T : Ty) → ((n : ℕ) → In (parts T) (Base n) → n < length w.functors) → HasTypes (parts T) w → Holds store T
+  type_held T named counted = member_held (parts T) T (part_itself T) named counted
 
 module _ (s : Site) (functors : List Presheaf) (laws : IsCategory s.category) (store : Store) (T : Ty) (id : ℕ) (faithful : IsFaithful s functors store) (sealed : IsSealed store T id) where
   abbrev F : Functor

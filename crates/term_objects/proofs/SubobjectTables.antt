@@ -4,7 +4,7 @@ use Rattle.std.specs.List.{range_with_len, All}
 use Rattle.std.proofs.lemmas.List.{length-map, get_or-map, ext_get_or}
 use Rattle.std.proofs.lemmas.List.FromFn.{length-map-range_with_len, get_or-map-range_with_len}
 use Rattle.finite_lists.specs.Members.{In, Distinct}
-use Rattle.finite_lists.proofs.Lists.{In_at, In-filter_from}
+use Rattle.finite_lists.proofs.Lists.{In_at, In-filter_from, map_same}
 use Rattle.finite_lists.proofs.DistinctLists.{In-range_from, Distinct-filter}
 use Rattle.topos_model.specs.declared.ty.Ty.{Ty, Base}
 use Rattle.topos_model.specs.declared.term.Term.{Term}
@@ -23,6 +23,7 @@ use Rattle.type_laws.proofs.Presheaves.{Distinct-elements}
 use Rattle.forcing_laws.proofs.Theorem.{forcing_is_monotone}
 use Rattle.functor_store.specs.Store.{Store}
 use Rattle.functor_store.specs.Faithful.{IsFaithful}
+use Rattle.truth_tables.specs.Tables.{row}
 use Rattle.truth_tables.specs.Standing.{IsTruthTable}
 use Rattle.truth_tables.proofs.Standing.{counts_long}
 use Rattle.term_tables.specs.Parts.{IsSealed}
@@ -85,6 +86,32 @@ module _ (w : CountedWorld) (tables : List MapTable) (T : Ty) (φ : Term) where
   unfolding satisfying satisfying_numbers
   satisfying_values c = kept_values (satisfies c) (els c)
 
+  number_low : (c x : ℕ) → In (satisfying_numbers W T φ c) x → x < length (els c)
+  unfolding satisfying_numbers
+  number_low c x i =
+      let m = In-filter_from (λ x. satisfies c (get_or (els c) x Star)) (range_with_len 0 (length (els c))) x i in
+      let r = In-range_from 0 (length (els c)) x m.0 in
+      omega (arith, r.1)
+
+  -- the numbers of a subobject give its elements
+  module _ (made : Subobject) (h : IsSubobject w tables T φ made) where
+    inclusion_at : (c : ℕ) → c < w.site.category.objects → get_or made.inclusion c [] ≡ satisfying_numbers W T φ c
+    inclusion_at c object = ap (λ l. get_or l c []) h.inclusion ∙ get_or-map-range_with_len (satisfying_numbers W T φ) 0 w.site.category.objects c c [] object (omega arith)
+
+    pub inclusion_long : length made.inclusion ≡ w.site.category.objects
+    inclusion_long = ap length h.inclusion ∙ length-map-range_with_len (satisfying_numbers W T φ) 0 w.site.category.objects
+
+    pub inclusion_within : (c x : ℕ) → c < length made.inclusion → In (get_or made.inclusion c []) x → x < length (elements w.site w.functors T c)
+    inclusion_within c x low i = number_low c x (subst (λ l. In l x) (inclusion_at c (omega (arith, low, inclusion_long))) i)
+
+    pub inclusion_values : row (length made.inclusion) (λ c. map (λ x. get_or (elements w.site w.functors T c) x Star) (get_or made.inclusion c [])) ≡ map (satisfying (world_of w tables) T φ) (objects_of w.site.category)
+    inclusion_values =
+        ap (λ n. row n (λ c. map (λ x. get_or (els c) x Star) (get_or made.inclusion c []))) inclusion_long
+        ∙ map_same (λ c. map (λ x. get_or (els c) x Star) (get_or made.inclusion c [])) (satisfying W T φ) (objects_of w.site.category)
+        (λ c i.
+        let r = In-range_from 0 w.site.category.objects c i in
+        ap (map (λ x. get_or (els c) x Star)) (inclusion_at c (omega (arith, r.1))) ∙ sym (satisfying_values c))
+
   satisfying_some : (c : ℕ) (v : Val) → In (satisfying (world_of w tables) T φ c) v → In (elements w.site w.functors T c) v
   unfolding satisfying
   satisfying_some c v i = (In-filter_from (satisfies c) (els c) v i).0
@@ -93,17 +120,10 @@ module _ (w : CountedWorld) (tables : List MapTable) (T : Ty) (φ : Term) where
   unfolding satisfying
   satisfying_once c = Distinct-filter (satisfies c) (els c) (Distinct-elements w.site w.functors T c)
 
-  number_low : (c x : ℕ) → In (satisfying_numbers W T φ c) x → x < length (els c)
-  unfolding satisfying_numbers
-  number_low c x i =
-      let m = In-filter_from (λ x. satisfies c (get_or (els c) x Star)) (range_with_len 0 (length (els c))) x i in
-      let r = In-range_from 0 (length (els c)) x m.0 in
-      omega (arith, r.1)
-
   -- the subobject declared after the others
   module _ (made : Subobject) (h : IsSubobject w tables T φ made) (range : is_type_in_range (length w.functors) T ≡ true) (laws : IsCategory w.site.category) (lawful : All (IsFunctor w.site.category) w.functors) where
     row_at : (c : ℕ) → c < w.site.category.objects → get_or made.inclusion c [] ≡ satisfying_numbers W T φ c
-    row_at c object = ap (λ l. get_or l c []) h.inclusion ∙ get_or-map-range_with_len (satisfying_numbers W T φ) 0 w.site.category.objects c c [] object (omega arith)
+    row_at = inclusion_at made h
 
     count_at : (c : ℕ) → length (satisfying W T φ c) ≡ length (satisfying_numbers W T φ c)
     count_at c = ap length (satisfying_values c) ∙ length-map (satisfying_numbers W T φ c) (λ x. get_or (els c) x Star)
@@ -113,7 +133,7 @@ module _ (w : CountedWorld) (tables : List MapTable) (T : Ty) (φ : Term) where
 
     their_numbers : AreImageNumbers w.site.category.objects (satisfying (world_of w tables) T φ) (elements w.site w.functors T) (λ c v. v) made.inclusion
     their_numbers = record {
-      objects_long = ap length h.inclusion ∙ length-map-range_with_len (satisfying_numbers W T φ) 0 w.site.category.objects;
+      objects_long = inclusion_long made h;
       total = λ c object. ap length (row_at c object) ∙ sym (count_at c);
       within = λ c x object low.
           subst (λ n. n < length (els c)) (sym (number_at c x object))

@@ -2,7 +2,7 @@
 use Rattle.std.proofs.Common.{◌≡◌, ℕ, ◌<◌, true, List, [], ◌∷◌, ◌++◌, length, get_or, map, refl, sym, ap, ap₂, subst, ◌∙◌, arith}
 use Rattle.std.specs.List.{range_with_len, All}
 use Rattle.std.proofs.lemmas.Bool.{and_from, lt-ltb}
-use Rattle.std.proofs.lemmas.List.{length_push, get_or_push, length-map}
+use Rattle.std.proofs.lemmas.List.{length_push, get_or_push, length-map, get_or-map, map-id}
 use Rattle.finite_lists.specs.Members.{In, Distinct}
 use Rattle.finite_lists.proofs.Lists.{map_same}
 use Rattle.finite_lists.proofs.DistinctLists.{In-range_from}
@@ -22,9 +22,10 @@ use Rattle.type_laws.specs.TypeLaws.{TypeFunctor}
 use Rattle.type_laws.proofs.Numbering.{size_numbered}
 use Rattle.type_laws.proofs.Presheaves.{types_presheaf, Distinct-elements}
 use Rattle.type_laws.proofs.TypeFunctors.{types_are_functors}
+use Rattle.truth_tables.specs.Tables.{row}
 use Rattle.formula_answers.specs.MapTables.{pairs_at, pairs_of, IsMapTable}
 use Rattle.formula_answers.proofs.MapTables.{base_count, base_value, base_functor, type_later, same_later, functor_later}
-use Rattle.term_objects.proofs.NumberTables.{AreImageNumbers, natural_numbers, identity_long, identity_at, identity_natural}
+use Rattle.term_objects.proofs.NumberTables.{AreImageNumbers, map_places, natural_numbers, identity_long, identity_at, identity_natural}
 use Rattle.term_objects.proofs.NumberedPresheaves.{same_numbered, part_presheaf}
 
 -- a presheaf that is there
@@ -165,3 +166,25 @@ module _ (s : Site) (functors : List Presheaf) (T : Ty) (range : is_type_in_rang
   unfolding pairs_of
   elements_pairs =
       map_same (pairs_at s (functors ++ Z ∷ []) back) (λ c. with_numbers (elements s functors T c)) (objects_of s.category) (λ c i. let r = In-range_from 0 s.category.objects c i in back_here c (omega (arith, r.1)))
+
+  -- the numbers at an object are those of its elements, and give these
+  row_is : (c : ℕ) → c < s.category.objects → get_or (map (λ n. range_with_len 0 n) (TypeFunctor s functors T).sizes) c [] ≡ range_with_len 0 (length (elements s functors T c))
+  row_is c object = get_or-map (λ n. range_with_len 0 n) Z.sizes c 0 [] (omega (arith, object, Z_lawful.objects)) ∙ ap (range_with_len 0) (size_is c object)
+
+  pub rows_long : length (map (λ n. range_with_len 0 n) (TypeFunctor s functors T).sizes) ≡ s.category.objects
+  rows_long = own_numbers.objects_long
+
+  pub rows_within : (c x : ℕ) → c < length (map (λ n. range_with_len 0 n) (TypeFunctor s functors T).sizes) → In (get_or (map (λ n. range_with_len 0 n) (TypeFunctor s functors T).sizes) c []) x → x < length (elements s functors T c)
+  rows_within c x low i =
+      let object : c < s.category.objects = omega (arith, low, rows_long) in
+      let r = In-range_from 0 (length (elements s functors T c)) x (subst (λ l. In l x) (row_is c object) i) in
+      omega (arith, r.1)
+
+  pub rows_values : row (length (map (λ n. range_with_len 0 n) (TypeFunctor s functors T).sizes)) (λ c. map (λ x. get_or (elements s functors T c) x Star) (get_or (map (λ n. range_with_len 0 n) (TypeFunctor s functors T).sizes) c []))
+      ≡ map (elements s functors T) (objects_of s.category)
+  rows_values =
+      ap (λ n. row n (λ c. map (λ x. get_or (elements s functors T c) x Star) (get_or rows c []))) rows_long
+      ∙ map_same (λ c. map (λ x. get_or (elements s functors T c) x Star) (get_or rows c [])) (elements s functors T) (objects_of s.category)
+      (λ c i.
+      let r = In-range_from 0 s.category.objects c i in
+      ap (map (λ x. get_or (elements s functors T c) x Star)) (row_is c (omega (arith, r.1))) ∙ map_places Star (λ v. v) (elements s functors T c) ∙ map-id (elements s functors T c))

@@ -5,8 +5,10 @@ mod made;
 mod presheaves;
 mod subobjects;
 mod term_maps;
+mod values;
 
 pub use made::Subobject;
 pub use presheaves::{identity_rows, type_presheaf};
 pub use subobjects::subobject;
 pub use term_maps::term_map;
+pub use values::type_values;

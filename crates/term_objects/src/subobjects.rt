@@ -21,7 +21,7 @@ use presheaf_core::Functor;
 use sealed_world::SealedWorld;
 use std::alloc::Global;
 use topos_model::{MapTable, NoMemory, Row, Term, Ty};
-use truth_tables::row_at;
+use truth_tables::{Truths, row_at};
 
 // For each object how many elements are kept, the numbers of these, and for each element how many before it are kept.
 #[derive(Drop)]
@@ -55,7 +55,7 @@ fn kept_rows(
     store: &FunctorStore,
     id: FunctorId,
     objects: u32,
-    truths: &[Row<bool>],
+    truths: &Truths,
 ) -> Result<Kept, NoMemory>
     requires truths { AreTruths store.now id objects truths.now }
     ensures sizes { IfOk result (λ kept. kept.sizes ≡ row objects (λ c. length (true_numbers (get_or truths.now c [])))) }
@@ -66,7 +66,7 @@ fn kept_rows(
     let mut all_numbers = Row::new(alloc);
     let mut all_places = Row::new(alloc);
     for c in 0..objects {
-        let (numbers, places) = kept_row(alloc, row_at(truths, c), store.count(id, c))?;
+        let (numbers, places) = kept_row(alloc, truths.row(c), store.count(id, c))?;
         sizes.push(numbers.len() as u32)?;
         all_numbers.push(numbers)?;
         all_places.push(places)?;
@@ -127,7 +127,7 @@ fn part(
     cat: &Cat,
     store: &FunctorStore,
     id: FunctorId,
-    truths: &[Row<bool>],
+    truths: &Truths,
 ) -> Result<Subobject, NoMemory>
     requires known { (s : Site) × (functors : List Presheaf) × (T : Ty) × (p : ℕ → Val → Bool) × TrueElements cat.now store.now id truths.now s functors T p }
     ensures { IfOk result (λ made. (s : Site) (functors : List Presheaf) (T : Ty) (p : ℕ → Val → Bool) → TrueElements cat.now store.now id truths.now s functors T p → IsPart s functors T p made) }
@@ -169,6 +169,6 @@ pub fn subobject(
         interpreter.site.cat(),
         interpreter.store,
         context.place,
-        truths.as_slice(),
+        &truths,
     )
 }

@@ -40,11 +40,12 @@ pub fn term_map(
     let context = scope(alloc, &interpreter, types.as_slice())?;
     let values = term_values(alloc, &interpreter, &context, term)?;
     let dom = ty.copy(alloc)?;
+    let rows = values.numbers.to_rows(alloc)?;
     Ok(MapTable {
         ends: MapTy {
             dom,
             cod: values.ty,
         },
-        rows: values.numbers,
+        rows,
     })
 }

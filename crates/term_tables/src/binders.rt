@@ -9,8 +9,8 @@ ghost use Rattle.term_tables.specs.Parts.{IsFunctionBody, IsSubsetBody};
 use formula_tables::Stages;
 use functor_store::{FunctorId, FunctorStore};
 use std::alloc::Global;
-use topos_model::{NoMemory, Row};
-use truth_tables::{Numbers, abstractions, indicators};
+use topos_model::NoMemory;
+use truth_tables::{Numbers, Truths, abstractions, indicators};
 
 /// The table of the function that a term with one more variable defines, of which the type `id` is sealed. The widths are the numbers of the variable's values at each
 /// object.
@@ -22,7 +22,7 @@ pub fn function_table(
     id: FunctorId,
     sizes: &[u32],
     widths: &[u32],
-    body: &[Row<u32>],
+    body: &Numbers,
 ) -> Result<Numbers, NoMemory>
     requires objects { length sizes.now < 2 ^ 32 }
     requires part { (w : World) × (Γ : List Ty) × (S T : Ty) × (t : Term) × IsFunctionBody w Γ S T t stages.now store.now context id sizes.now widths.now body.now }
@@ -50,7 +50,7 @@ pub fn comprehension_table(
     sizes: &[u32],
     inner: &[u32],
     widths: &[u32],
-    body: &[Row<bool>],
+    body: &Truths,
 ) -> Result<Numbers, NoMemory>
     requires objects { length sizes.now < 2 ^ 32 }
     requires part { (w : World) × (Γ : List Ty) × (T : Ty) × (φ : Term) × IsSubsetBody w Γ T φ stages.now store.now context id sizes.now inner.now widths.now body.now }
@@ -65,6 +65,6 @@ pub fn comprehension_table(
         sizes,
         stages.sources.as_slice(),
         widths,
-        digits.as_slice(),
+        &digits,
     )
 }

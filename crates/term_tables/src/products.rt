@@ -8,7 +8,7 @@ ghost use Rattle.term_tables.specs.Parts.{ArePairParts, IsPairTable};
 
 use functor_store::FunctorStore;
 use std::alloc::Global;
-use topos_model::{NoMemory, Row};
+use topos_model::NoMemory;
 use truth_tables::{Numbers, first_parts, pairs, second_parts, table};
 
 /// The table of the empty tuple.
@@ -25,8 +25,8 @@ pub fn pair_table(
     store: &FunctorStore,
     sizes: &[u32],
     widths: &[u32],
-    left: &[Row<u32>],
-    right: &[Row<u32>],
+    left: &Numbers,
+    right: &Numbers,
 ) -> Result<Numbers, NoMemory>
     requires objects { length sizes.now < 2 ^ 32 }
     requires parts { (w : World) × (Γ : List Ty) × (S T : Ty) × (t u : Term) × ArePairParts w Γ S T t u store.now sizes.now widths.now left.now right.now }
@@ -42,7 +42,7 @@ pub fn first_table(
     alloc: Global,
     sizes: &[u32],
     widths: &[u32],
-    tuples: &[Row<u32>],
+    tuples: &Numbers,
 ) -> Result<Numbers, NoMemory>
     requires objects { length sizes.now < 2 ^ 32 }
     requires part { (w : World) × (Γ : List Ty) × (S T : Ty) × (t : Term) × IsPairTable w Γ S T t sizes.now widths.now tuples.now }
@@ -56,7 +56,7 @@ pub fn second_table(
     alloc: Global,
     sizes: &[u32],
     widths: &[u32],
-    tuples: &[Row<u32>],
+    tuples: &Numbers,
 ) -> Result<Numbers, NoMemory>
     requires objects { length sizes.now < 2 ^ 32 }
     requires part { (w : World) × (Γ : List Ty) × (S T : Ty) × (t : Term) × IsPairTable w Γ S T t sizes.now widths.now tuples.now }

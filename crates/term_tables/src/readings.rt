@@ -16,7 +16,7 @@ pub fn image_table(
     alloc: Global,
     sizes: &[u32],
     map: &[Row<u32>],
-    arguments: &[Row<u32>],
+    arguments: &Numbers,
 ) -> Result<Numbers, NoMemory>
     requires objects { length sizes.now < 2 ^ 32 }
     requires parts { (w : World) × (Γ : List Ty) × (m : ℕ) × (S T : Ty) × (t : Term) × AreMapParts w Γ m S T t sizes.now map.now arguments.now }
@@ -29,8 +29,8 @@ pub fn image_table(
 pub fn equal_table(
     alloc: Global,
     sizes: &[u32],
-    left: &[Row<u32>],
-    right: &[Row<u32>],
+    left: &Numbers,
+    right: &Numbers,
 ) -> Result<Truths, NoMemory>
     requires objects { length sizes.now < 2 ^ 32 }
     requires parts { (w : World) × (Γ : List Ty) × (T : Ty) × (t u : Term) × AreAlike w Γ T t u sizes.now left.now right.now }
@@ -45,8 +45,8 @@ pub fn evaluation_table(
     store: &FunctorStore,
     id: FunctorId,
     sizes: &[u32],
-    functions: &[Row<u32>],
-    arguments: &[Row<u32>],
+    functions: &Numbers,
+    arguments: &Numbers,
 ) -> Result<Numbers, NoMemory>
     requires objects { length sizes.now < 2 ^ 32 }
     requires parts { (w : World) × (Γ : List Ty) × (S T : Ty) × (t u : Term) × AreFunctionParts w Γ S T t u store.now id sizes.now functions.now arguments.now }
@@ -61,8 +61,8 @@ pub fn membership_table(
     store: &FunctorStore,
     id: FunctorId,
     sizes: &[u32],
-    elements: &[Row<u32>],
-    subsets: &[Row<u32>],
+    elements: &Numbers,
+    subsets: &Numbers,
 ) -> Result<Truths, NoMemory>
     requires objects { length sizes.now < 2 ^ 32 }
     requires parts { (w : World) × (Γ : List Ty) × (T : Ty) × (t u : Term) × AreMemberParts w Γ T t u store.now id sizes.now elements.now subsets.now }

@@ -24,7 +24,7 @@ use topos_model::{NoMemory, Row};
 use truth_tables::{Numbers, Truths, bit, number, row_at, table};
 
 // Whether the truth value at a tuple holds.
-fn holds_at(omega: &Omega, numbers: &[Row<u32>], c: u32, i: u32) -> bool
+fn holds_at(omega: &Omega, numbers: &Numbers, c: u32, i: u32) -> bool
     requires { IsTruthValue omega.now numbers.now c i }
     ensures { (s : Site) → IsOmegaOn s omega.now → result ≡ has c (sieve_at s c (number numbers.now c i)) }
 {
@@ -36,7 +36,7 @@ pub fn formula_table(
     alloc: Global,
     omega: &Omega,
     sizes: &[u32],
-    numbers: &[Row<u32>],
+    numbers: &Numbers,
 ) -> Result<Truths, NoMemory>
     requires objects { length sizes.now < 2 ^ 32 }
     requires part { (w : World) × (Γ : List Ty) × (t : Term) × AreTruthValues w Γ t omega.now sizes.now numbers.now }
@@ -53,12 +53,7 @@ pub fn formula_table(
 }
 
 // The arrows, given with their sources and the restrictions of a tuple along them, along which a table is true.
-fn true_arrows(
-    arrows: &[u32],
-    sources: &[u32],
-    restrictions: &[u32],
-    truths: &[Row<bool>],
-) -> ArrowMask
+fn true_arrows(arrows: &[u32], sources: &[u32], restrictions: &[u32], truths: &Truths) -> ArrowMask
     requires restrictions { length restrictions.now ≡ length arrows.now }
     requires read { AreRead truths.now sources.now restrictions.now arrows.now }
     ensures { arrows_in result ≡ true_arrows truths.now sources.now restrictions.now arrows.now }
@@ -79,7 +74,7 @@ fn truth_value_at(
     store: &FunctorStore,
     context: FunctorId,
     sources: &[Row<u32>],
-    truths: &[Row<bool>],
+    truths: &Truths,
     c: u32,
     i: u32,
 ) -> u32
@@ -104,7 +99,7 @@ pub fn truth_value_table(
     store: &FunctorStore,
     context: FunctorId,
     sizes: &[u32],
-    truths: &[Row<bool>],
+    truths: &Truths,
 ) -> Result<Numbers, NoMemory>
     requires objects { length sizes.now < 2 ^ 32 }
     requires part { (w : World) × (Γ : List Ty) × (φ : Term) × AreForced w Γ φ cat.now omega.now stages.now store.now context sizes.now truths.now }

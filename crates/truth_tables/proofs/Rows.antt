@@ -1,5 +1,5 @@
 -- Rows of entries, one after another.
-use Rattle.std.proofs.Common.{◌≡◌, ℕ, ◌+◌, ◌<◌, inl, inr, List, [], ◌∷◌, ◌++◌, length, get_or, flat_map, sym, ap, subst, ◌∙◌, arith, append-nil, append_assoc}
+use Rattle.std.proofs.Common.{◌≡◌, ℕ, ◌+◌, ◌<◌, inl, inr, List, [], ◌∷◌, ◌++◌, length, get_or, flat_map, refl, sym, ap, subst, ◌∙◌, arith, append-nil, append_assoc}
 use Rattle.std.specs.List.{range_with_len}
 use Rattle.std.proofs.lemmas.Bool.{cases_lt}
 use Rattle.std.proofs.lemmas.Grind.{flat_map-append}
@@ -11,6 +11,11 @@ use Rattle.truth_tables.specs.Tables.{row}
 pub row-more : {A : Type 0} (entry : ℕ → A) (n : ℕ) (before after : List A) (x : A) → before ≡ row n entry → after ≡ before ++ x ∷ [] → x ≡ entry n → after ≡ row (n + 1) entry
 row-more entry n before after x b a e =
     a ∙ ap (λ l. l ++ x ∷ []) b ∙ ap (λ y. row n entry ++ y ∷ []) e ∙ sym (map-range_with_len_more entry 0 n n (omega arith))
+
+-- one more entry is put behind what was there before
+pub row-longer : {A : Type 0} (entry : ℕ → A) (n : ℕ) (start before after : List A) (x : A) → before ≡ start ++ row n entry → after ≡ before ++ x ∷ [] → x ≡ entry n → after ≡ start ++ row (n + 1) entry
+row-longer entry n start before after x b a e =
+    a ∙ ap (λ l. l ++ x ∷ []) b ∙ append_assoc start (row n entry) (x ∷ []) ∙ ap (λ l. start ++ l) (row-more entry n (row n entry) (row n entry ++ x ∷ []) x refl refl e)
 
 range-more : (n : ℕ) → range_with_len 0 (n + 1) ≡ range_with_len 0 n ++ n ∷ []
 range-more n =

@@ -1,3 +1,4 @@
+pub mod Spans
 pub mod Tables
 pub mod Arrows
 pub mod Entries

@@ -6,8 +6,8 @@ ghost use Rattle.natural_search.specs.Rows.{IsCompared};
 ghost use Rattle.functor_store.specs.Store.{into, functor_at, size_at, element_at, restrictions_at};
 ghost use Rattle.truth_tables.specs.Abstraction.{row_of, HasBlocks, IsElement, IsNumbered, IsThere, AreThere, AreNumbered};
 
-use crate::Numbers;
-use crate::tables::{block, row_at};
+use crate::tables::{block, row_at, total};
+use crate::{Numbers, TupleTable};
 use functor_store::{FunctorId, FunctorStore};
 use natural_search::{compare_rows, place_by, push_row};
 use std::alloc::Global;
@@ -34,7 +34,7 @@ fn push_behind(
     sources: &[u32],
     restrictions: &[u32],
     widths: &[u32],
-    body: &[Row<u32>],
+    body: &Numbers,
     out: &mut Row<u32>,
 ) -> Result<(), NoMemory>
     requires arrows { length restrictions.now ≡ length sources.now }
@@ -43,17 +43,13 @@ fn push_behind(
 {
     for j in 0..sources.len() {
         let d = sources[j];
-        push_row(
-            out,
-            block(widths[d as usize], restrictions[j], row_at(body, d)),
-        )?;
+        push_row(out, block(widths[d as usize], restrictions[j], body.row(d)))?;
     }
     Ok(())
 }
 
-// The numbers, at the tuples of an object, of the elements whose rows the entries behind their restrictions are.
+// Puts the numbers, at the tuples of an object, of the elements whose rows the entries behind their restrictions are, in place of what was there.
 fn numbers_at(
-    alloc: Global,
     store: &FunctorStore,
     context: FunctorId,
     id: FunctorId,
@@ -61,19 +57,20 @@ fn numbers_at(
     size: u32,
     sources: &[u32],
     widths: &[u32],
-    body: &[Row<u32>],
+    body: &Numbers,
     scratch: &mut Row<u32>,
-) -> Result<Row<u32>, NoMemory>
+    numbers: &mut Row<u32>,
+) -> Result<(), NoMemory>
     requires sealed { (context < length store.now.sealed) × (id < length store.now.sealed) }
     requires object { c < store.now.objects }
     requires tuples { size ≡ size_at (functor_at store.now.sealed context) c }
     requires arrows { length sources.now ≡ into store.now.ends c }
     requires rise { Rising NumbersBelow (get_or (functor_at store.now.sealed id).rows c []) }
     requires there { (i : ℕ) → i < size → IsThere (functor_at store.now.sealed id) c sources.now (restrictions_at (functor_at store.now.sealed context) c i) widths.now body.now }
-    ensures size { IfOk result (λ numbers. length numbers ≡ size) }
-    ensures numbers { IfOk result (λ numbers. (i : ℕ) → i < size → IsNumbered (functor_at store.now.sealed id) c (row_of sources.now (restrictions_at (functor_at store.now.sealed context) c i) widths.now body.now) (get_or numbers i 0)) }
+    ensures size { OnOk result (length numbers.new ≡ size) }
+    ensures numbers { OnOk result ((i : ℕ) → i < size → IsNumbered (functor_at store.now.sealed id) c (row_of sources.now (restrictions_at (functor_at store.now.sealed context) c i) widths.now body.now) (get_or numbers.new i 0)) }
 {
-    let mut numbers = Row::new(alloc);
+    numbers.truncate(0);
     for i in 0..size {
         scratch.truncate(0);
         push_behind(
@@ -85,7 +82,7 @@ fn numbers_at(
         )?;
         numbers.push(element_number(store, id, c, scratch.as_slice()))?;
     }
-    Ok(numbers)
+    Ok(())
 }
 
 /// The function, or the subset, that a term with one more variable defines at each tuple of a sealed context: the number of the element, of a sealed functor whose rows
@@ -99,7 +96,7 @@ pub fn abstractions(
     sizes: &[u32],
     sources: &[Row<u32>],
     widths: &[u32],
-    body: &[Row<u32>],
+    body: &Numbers,
 ) -> Result<Numbers, NoMemory>
     requires objects { length sizes.now < 2 ^ 32 }
     requires sealed { (context < length store.now.sealed) × (id < length store.now.sealed) }
@@ -112,10 +109,10 @@ pub fn abstractions(
     ensures { IfOk result (AreNumbered (functor_at store.now.sealed context) (functor_at store.now.sealed id) sizes.now sources.now widths.now body.now) }
 {
     let mut scratch = Row::new(alloc);
-    let mut numbers = Row::new(alloc);
+    let mut row = Row::new(alloc);
+    let mut numbers = TupleTable::with_capacity(alloc, sizes.len(), total(sizes))?;
     for c in 0..sizes.len() as u32 {
-        numbers.push(numbers_at(
-            alloc,
+        numbers_at(
             store,
             context,
             id,
@@ -125,7 +122,9 @@ pub fn abstractions(
             widths,
             body,
             &mut scratch,
-        )?)?;
+            &mut row,
+        )?;
+        numbers.push_numbers(row.as_slice())?;
     }
     Ok(numbers)
 }

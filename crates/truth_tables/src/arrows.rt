@@ -12,7 +12,7 @@ use std::alloc::Global;
 use topos_model::{NoMemory, Row};
 
 // Whether a tuple's restrictions along the chosen arrows have their truth value.
-fn holds_along(truths: &[Row<bool>], sources: &[u32], restrictions: &[u32], chosen: &[u32]) -> bool
+fn holds_along(truths: &Truths, sources: &[u32], restrictions: &[u32], chosen: &[u32]) -> bool
     requires arrows { length restrictions.now ≡ length sources.now }
     requires landing { AreLanding truths.now sources.now restrictions.now chosen.now }
     ensures { result ≡ list_all (along truths.now sources.now restrictions.now) chosen.now }
@@ -35,7 +35,7 @@ pub fn everywhere(
     sizes: &[u32],
     sources: &[Row<u32>],
     chosen: &[Row<u32>],
-    truths: &[Row<bool>],
+    truths: &Truths,
 ) -> Result<Truths, NoMemory>
     requires objects { length sizes.now < 2 ^ 32 }
     requires sealed { context < length store.now.sealed }

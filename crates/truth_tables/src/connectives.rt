@@ -5,7 +5,7 @@ ghost use Rattle.truth_tables.specs.Tables.{table, bit, number, connected, IsOve
 use crate::tables::{bit, number, table};
 use crate::{Numbers, Truths};
 use std::alloc::Global;
-use topos_model::{NoMemory, Row};
+use topos_model::NoMemory;
 
 /// A connective that is decided at each tuple by itself.
 #[derive(Clone, Copy, Drop)]
@@ -32,8 +32,8 @@ pub fn combine(
     alloc: Global,
     connective: Connective,
     sizes: &[u32],
-    left: &[Row<bool>],
-    right: &[Row<bool>],
+    left: &Truths,
+    right: &Truths,
 ) -> Result<Truths, NoMemory>
     requires objects { length sizes.now < 2 ^ 32 }
     requires left { IsOver sizes.now left.now }
@@ -51,8 +51,8 @@ pub fn combine(
 pub fn equal(
     alloc: Global,
     sizes: &[u32],
-    left: &[Row<u32>],
-    right: &[Row<u32>],
+    left: &Numbers,
+    right: &Numbers,
 ) -> Result<Truths, NoMemory>
     requires objects { length sizes.now < 2 ^ 32 }
     requires left { IsOver sizes.now left.now }
@@ -76,7 +76,7 @@ pub fn constant(alloc: Global, sizes: &[u32], values: &[bool]) -> Result<Truths,
 }
 
 /// The numbers 1 and 0 for the truth values: those of the characteristic function.
-pub fn indicators(alloc: Global, sizes: &[u32], truths: &[Row<bool>]) -> Result<Numbers, NoMemory>
+pub fn indicators(alloc: Global, sizes: &[u32], truths: &Truths) -> Result<Numbers, NoMemory>
     requires objects { length sizes.now < 2 ^ 32 }
     requires truths { IsOver sizes.now truths.now }
     ensures { IfOk result (λ numbers. numbers ≡ table sizes.now (λ c i. cond (bit truths.now c i) 1 0)) }

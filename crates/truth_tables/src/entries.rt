@@ -4,7 +4,7 @@ ghost use Rattle.functor_store.specs.Store.{functor_at, element_at};
 ghost use Rattle.truth_tables.specs.Tables.{table, number, IsOver};
 ghost use Rattle.truth_tables.specs.Entries.{AreEntries, IsEntry};
 
-use crate::tables::{number, table};
+use crate::tables::{number, row_at, table};
 use crate::{Numbers, Truths};
 use functor_store::{FunctorId, FunctorStore};
 use std::alloc::Global;
@@ -15,7 +15,7 @@ pub fn images(
     alloc: Global,
     sizes: &[u32],
     images: &[Row<u32>],
-    numbers: &[Row<u32>],
+    numbers: &Numbers,
 ) -> Result<Numbers, NoMemory>
     requires objects { length sizes.now < 2 ^ 32 }
     requires numbers { IsOver sizes.now numbers.now }
@@ -26,7 +26,7 @@ pub fn images(
     table(
         alloc,
         sizes,
-        |c, i| number(images, c, number(numbers, c, i)),
+        |c, i| row_at(images, c)[number(numbers, c, i) as usize],
     )
 }
 
@@ -44,8 +44,8 @@ pub fn values(
     store: &FunctorStore,
     id: FunctorId,
     sizes: &[u32],
-    functions: &[Row<u32>],
-    arguments: &[Row<u32>],
+    functions: &Numbers,
+    arguments: &Numbers,
 ) -> Result<Numbers, NoMemory>
     requires objects { length sizes.now < 2 ^ 32 }
     requires sealed { id < length store.now.sealed }
@@ -74,8 +74,8 @@ pub fn members(
     store: &FunctorStore,
     id: FunctorId,
     sizes: &[u32],
-    subsets: &[Row<u32>],
-    elements: &[Row<u32>],
+    subsets: &Numbers,
+    elements: &Numbers,
 ) -> Result<Truths, NoMemory>
     requires objects { length sizes.now < 2 ^ 32 }
     requires sealed { id < length store.now.sealed }

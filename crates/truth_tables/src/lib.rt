@@ -7,6 +7,7 @@ mod connectives;
 mod entries;
 mod quantifiers;
 mod tables;
+mod tuple_tables;
 mod variables;
 
 pub use abstraction::{abstractions, element_number};
@@ -15,4 +16,5 @@ pub use connectives::{Connective, combine, constant, equal, indicators};
 pub use entries::{images, members, values};
 pub use quantifiers::{Quantifier, quantify};
 pub use tables::{Numbers, Truths, bit, number, row_at, table};
+pub use tuple_tables::TupleTable;
 pub use variables::{first_parts, last_variable, outer_variable, pairs, second_parts};

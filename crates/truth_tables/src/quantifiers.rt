@@ -4,9 +4,9 @@ ghost use Rattle.std.specs.List.{count_by};
 ghost use Rattle.truth_tables.specs.Tables.{table, block, decided};
 
 use crate::Truths;
-use crate::tables::{block, row_at, table};
+use crate::tables::{block, table};
 use std::alloc::Global;
-use topos_model::{NoMemory, Row};
+use topos_model::NoMemory;
 
 /// A condition on the truth values at the elements of a type.
 #[derive(Clone, Copy, Drop)]
@@ -47,7 +47,7 @@ pub fn quantify(
     quantifier: Quantifier,
     sizes: &[u32],
     widths: &[u32],
-    body: &[Row<bool>],
+    body: &Truths,
 ) -> Result<Truths, NoMemory>
     requires objects { length sizes.now < 2 ^ 32 }
     requires widths { length widths.now ≡ length sizes.now }
@@ -56,6 +56,6 @@ pub fn quantify(
     ensures { IfOk result (λ truths. truths ≡ table sizes.now (λ c i. decided quantifier (block (get_or widths.now c 0) i (get_or body.now c [])))) }
 {
     table(alloc, sizes, |c, i| {
-        quantifier.decides(block(widths[c as usize], i, row_at(body, c)))
+        quantifier.decides(block(widths[c as usize], i, body.row(c)))
     })
 }

@@ -1,31 +1,24 @@
 // Tables by their entries.
-ghost use Rattle.std.specs.Prelude.{◌≡◌, ◌<◌, ◌≤◌, ◌+◌, ◌*◌, ◌^◌, ℕ, List, [], length, get_or, IfOk};
-ghost use Rattle.truth_tables.specs.Tables.{row, table, block, bit, number};
+ghost use Rattle.std.specs.Prelude.{◌≡◌, ◌<◌, ◌≤◌, ◌+◌, ◌*◌, ◌^◌, ℕ, [], length, get_or, IfOk};
+ghost use Rattle.truth_tables.specs.Tables.{table, block, bit, number};
 
+use crate::TupleTable;
 use std::alloc::Global;
 use topos_model::{NoMemory, Row};
 
 /// For each object a truth value for each tuple.
-pub type Truths = Row<Row<bool>>;
+pub type Truths = TupleTable<bool>;
 
 /// For each object an element number for each tuple.
-pub type Numbers = Row<Row<u32>>;
+pub type Numbers = TupleTable<u32>;
 
-// The row of the first so many entries at an object.
-fn row<T: Drop, F: Fn(u32, u32) -> T>(
-    alloc: Global,
-    c: u32,
-    size: u32,
-    entry: &F,
-) -> Result<Row<T>, NoMemory>
-    requires { (i : ℕ) → i < size → F.pre entry.now c i }
-    ensures { IfOk result (λ items. (f : ℕ → T) → ((i : ℕ) (x : T) → i < size → F.post entry.now c i x → x ≡ f i) → items ≡ row size f) }
-{
-    let mut items = Row::new(alloc);
-    for i in 0..size {
-        items.push(entry(c, i))?;
+// How many tuples there are, or more than memory has room for.
+pub(crate) fn total(sizes: &[u32]) -> usize {
+    let mut total = 0usize;
+    for size in sizes {
+        total = total.saturating_add(*size as usize);
     }
-    Ok(items)
+    total
 }
 
 /// The table of these entries, the numbers of tuples at each object being given.
@@ -33,14 +26,14 @@ pub fn table<T: Drop, F: Fn(u32, u32) -> T>(
     alloc: Global,
     sizes: &[u32],
     entry: F,
-) -> Result<Row<Row<T>>, NoMemory>
+) -> Result<TupleTable<T>, NoMemory>
     requires objects { length sizes.now < 2 ^ 32 }
     requires entries { (c i : ℕ) → c < length sizes.now → i < get_or sizes.now c 0 → F.pre entry c i }
     ensures { IfOk result (λ rows. (f : ℕ → ℕ → T) → ((c i : ℕ) (x : T) → c < length sizes.now → i < get_or sizes.now c 0 → F.post entry c i x → x ≡ f c i) → rows ≡ table sizes.now f) }
 {
-    let mut rows = Row::new(alloc);
+    let mut rows = TupleTable::with_capacity(alloc, sizes.len(), total(sizes))?;
     for c in 0..sizes.len() as u32 {
-        rows.push(row(alloc, c, sizes[c as usize], &entry)?)?;
+        rows.push_entries(c, sizes[c as usize], &entry)?;
     }
     Ok(rows)
 }
@@ -54,21 +47,21 @@ pub fn row_at<T>(rows: &[Row<T>], c: u32) -> &[T]
 }
 
 /// The truth value of a tuple.
-pub fn bit(truths: &[Row<bool>], c: u32, i: u32) -> bool
+pub fn bit(truths: &Truths, c: u32, i: u32) -> bool
     requires object { c < length truths.now }
     requires tuple { i < length (get_or truths.now c []) }
     ensures { result ≡ bit truths.now c i }
 {
-    row_at(truths, c)[i as usize]
+    truths.row(c)[i as usize]
 }
 
 /// The number of a tuple.
-pub fn number(numbers: &[Row<u32>], c: u32, i: u32) -> u32
+pub fn number(numbers: &Numbers, c: u32, i: u32) -> u32
     requires object { c < length numbers.now }
     requires tuple { i < length (get_or numbers.now c []) }
     ensures { result ≡ number numbers.now c i }
 {
-    row_at(numbers, c)[i as usize]
+    numbers.row(c)[i as usize]
 }
 
 // The entries of the tuples that put one of so many elements behind the tuple i.

@@ -5,7 +5,7 @@ ghost use Rattle.truth_tables.specs.Tables.{table, number, IsOver, HasWidths};
 use crate::Numbers;
 use crate::tables::{number, table};
 use std::alloc::Global;
-use topos_model::{NoMemory, Row};
+use topos_model::NoMemory;
 
 /// The last variable of a context: the widths are the numbers of its values at each object.
 pub fn last_variable(alloc: Global, sizes: &[u32], widths: &[u32]) -> Result<Numbers, NoMemory>
@@ -21,7 +21,7 @@ pub fn outer_variable(
     alloc: Global,
     sizes: &[u32],
     widths: &[u32],
-    outer: &[Row<u32>],
+    outer: &Numbers,
 ) -> Result<Numbers, NoMemory>
     requires objects { length sizes.now < 2 ^ 32 }
     requires widths { HasWidths sizes.now widths.now }
@@ -41,8 +41,8 @@ pub fn pairs(
     alloc: Global,
     sizes: &[u32],
     widths: &[u32],
-    first: &[Row<u32>],
-    second: &[Row<u32>],
+    first: &Numbers,
+    second: &Numbers,
 ) -> Result<Numbers, NoMemory>
     requires objects { length sizes.now < 2 ^ 32 }
     requires widths { length widths.now ≡ length sizes.now }
@@ -63,7 +63,7 @@ pub fn first_parts(
     alloc: Global,
     sizes: &[u32],
     widths: &[u32],
-    pairs: &[Row<u32>],
+    pairs: &Numbers,
 ) -> Result<Numbers, NoMemory>
     requires objects { length sizes.now < 2 ^ 32 }
     requires widths { HasWidths sizes.now widths.now }
@@ -82,7 +82,7 @@ pub fn second_parts(
     alloc: Global,
     sizes: &[u32],
     widths: &[u32],
-    pairs: &[Row<u32>],
+    pairs: &Numbers,
 ) -> Result<Numbers, NoMemory>
     requires objects { length sizes.now < 2 ^ 32 }
     requires widths { HasWidths sizes.now widths.now }

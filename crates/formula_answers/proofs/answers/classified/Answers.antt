@@ -46,7 +46,7 @@ tuples_with_sieves-requires-clause-known c =
       w,
       value w c.args.formula.now,
       sieves_known c.args.world.now c.args.maps.now c.interpreter-interpreter.result serves Γ c.args.formula.now Omega c.requires.formula c.in_ok-context.context scope
-          c.elements.result c.tuples.result.now c.elements.ensures c.tuples.ensures c.in_ok-values.values c.as_slice.result.now c.as_slice.ensures refl (c.in_ok-values.ensures.values w (ends_of c.args.maps.now) Γ Omega whole),
+          c.elements.result c.tuples.result.now c.elements.ensures c.tuples.ensures c.in_ok-values.values refl (c.in_ok-values.ensures.values w (ends_of c.args.maps.now) Γ Omega whole),
     )
 
 pub returns : goal.returns
@@ -57,5 +57,5 @@ returns c =
     let scope = c.in_ok-context.ensures.scope w (ends_of c.args.maps.now) serves.knows in
     let whole = known c.args.world.now c.args.maps.now c.interpreter-interpreter.result serves Γ c.args.formula.now Omega c.requires.formula c.in_ok-context.context scope in
     let fed = sieves_known c.args.world.now c.args.maps.now c.interpreter-interpreter.result serves Γ c.args.formula.now Omega c.requires.formula c.in_ok-context.context scope
-    c.elements.result c.tuples.result.now c.elements.ensures c.tuples.ensures c.in_ok-values.values c.as_slice.result.now c.as_slice.ensures refl (c.in_ok-values.ensures.values w (ends_of c.args.maps.now) Γ Omega whole) in
+    c.elements.result c.tuples.result.now c.elements.ensures c.tuples.ensures c.in_ok-values.values refl (c.in_ok-values.ensures.values w (ends_of c.args.maps.now) Γ Omega whole) in
     record { stages = IfOk-weaker c.tuples_with_sieves.result _ _ (λ stages is. is w (value w c.args.formula.now) fed ∙ classified_with w Γ c.args.formula.now) c.tuples_with_sieves.ensures }

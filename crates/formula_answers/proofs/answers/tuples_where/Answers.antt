@@ -45,7 +45,7 @@ tuples_with-requires-clause-known c =
       w,
       forces w c.args.formula.now,
       truths_known c.args.world.now c.args.maps.now c.interpreter-interpreter.result serves Γ c.args.formula.now Omega c.requires.formula c.in_ok-context.context scope
-          c.elements.result c.tuples.result.now c.elements.ensures c.tuples.ensures c.in_ok-truths.truths c.as_slice.result.now c.as_slice.ensures (c.in_ok-truths.ensures.truths w (ends_of c.args.maps.now) Γ whole),
+          c.elements.result c.tuples.result.now c.elements.ensures c.tuples.ensures c.in_ok-truths.truths (c.in_ok-truths.ensures.truths w (ends_of c.args.maps.now) Γ whole),
     )
 
 pub returns : goal.returns
@@ -59,5 +59,5 @@ returns c =
     (λ stages is.
     is w (forces w c.args.formula.now)
     (truths_known c.args.world.now c.args.maps.now c.interpreter-interpreter.result serves Γ c.args.formula.now Omega c.requires.formula c.in_ok-context.context scope
-    c.elements.result c.tuples.result.now c.elements.ensures c.tuples.ensures c.in_ok-truths.truths c.as_slice.result.now c.as_slice.ensures (c.in_ok-truths.ensures.truths w (ends_of c.args.maps.now) Γ whole)))
+    c.elements.result c.tuples.result.now c.elements.ensures c.tuples.ensures c.in_ok-truths.truths (c.in_ok-truths.ensures.truths w (ends_of c.args.maps.now) Γ whole)))
     c.tuples_with.ensures

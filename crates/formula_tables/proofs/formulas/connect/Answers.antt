@@ -1,6 +1,4 @@
-use Rattle.std.proofs.Common.{subst, sym}
 use Rattle.std.proofs.lemmas.Result.{IfOk-weaker}
-use Rattle.truth_tables.specs.Standing.{IsTruthTable}
 use Rattle.formula_tables.specs.Formulas.{connected_at}
 use Rattle.formula_tables.proofs.AlongArrows.{over_sizes}
 use Rattle.formula_tables.proofs.Forms.{connected_stands, and_row, or_row, implies_row}
@@ -18,7 +16,7 @@ locally-requires-clause-parts c =
       w,
       Γ,
       connected_at c.args.connective φ ψ,
-      record { known = h.known; stands = subst (IsTruthTable w Γ (connected_at c.args.connective φ ψ)) (sym c.as_slice.ensures) (connected_stands w Γ _ _ _ _ φ ψ _ _ h c.args.connective _ c.in_ok-both.ensures) },
+      record { known = h.known; stands = connected_stands w Γ _ _ _ _ φ ψ _ _ h c.args.connective _ c.in_ok-both.ensures },
     )
 
 pub always-requires-clause-parts : goal.always-requires-clause-parts
@@ -27,7 +25,7 @@ always-requires-clause-parts c =
       w,
       Γ,
       connected_at c.args.connective φ ψ,
-      record { known = h.known; stands = subst (IsTruthTable w Γ (connected_at c.args.connective φ ψ)) (sym c.as_slice-in-Implies.ensures) (connected_stands w Γ _ _ _ _ φ ψ _ _ h c.args.connective _ c.in_ok-both.ensures) },
+      record { known = h.known; stands = connected_stands w Γ _ _ _ _ φ ψ _ _ h c.args.connective _ c.in_ok-both.ensures },
     )
 
 pub returns-in-And : goal.returns-in-And
@@ -39,7 +37,7 @@ returns-in-Or c =
     (λ truths is w Γ φ ψ h.
     or_row w Γ truths _ φ ψ c.in-Or.is
     (is w Γ (connected_at c.args.connective φ ψ)
-    (record { known = h.known; stands = subst (IsTruthTable w Γ (connected_at c.args.connective φ ψ)) (sym c.as_slice.ensures) (connected_stands w Γ _ _ _ _ φ ψ _ _ h c.args.connective _ c.in_ok-both.ensures) })))
+    (record { known = h.known; stands = connected_stands w Γ _ _ _ _ φ ψ _ _ h c.args.connective _ c.in_ok-both.ensures })))
     c.locally.ensures
 
 pub returns-in-Implies : goal.returns-in-Implies
@@ -48,5 +46,5 @@ returns-in-Implies c =
     (λ truths is w Γ φ ψ h.
     implies_row w Γ truths _ φ ψ c.in-Implies.is
     (is w Γ (connected_at c.args.connective φ ψ)
-    (record { known = h.known; stands = subst (IsTruthTable w Γ (connected_at c.args.connective φ ψ)) (sym c.as_slice-in-Implies.ensures) (connected_stands w Γ _ _ _ _ φ ψ _ _ h c.args.connective _ c.in_ok-both.ensures) })))
+    (record { known = h.known; stands = connected_stands w Γ _ _ _ _ φ ψ _ _ h c.args.connective _ c.in_ok-both.ensures })))
     c.always.ensures

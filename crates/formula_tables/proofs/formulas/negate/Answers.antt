@@ -1,7 +1,5 @@
-use Rattle.std.proofs.Common.{subst, sym}
 use Rattle.std.proofs.lemmas.Result.{IfOk-weaker}
 use Rattle.topos_model.specs.formulas.Forcing.{falsity_forced}
-use Rattle.truth_tables.specs.Standing.{IsTruthTable}
 use Rattle.formula_tables.proofs.Forms.{not_row}
 use Rattle.formula_tables.proofs.formulas.negate.Goals as goal
 
@@ -15,7 +13,7 @@ connect-requires-clause-parts c =
       Γ,
       φ,
       falsity_forced w,
-      record { known = h.known; left_stands = h.stands; right_stands = subst (IsTruthTable w Γ (falsity_forced w)) (sym c.as_slice.ensures) (c.in_ok-falsity.ensures w Γ h.known) },
+      record { known = h.known; left_stands = h.stands; right_stands = c.in_ok-falsity.ensures w Γ h.known },
     )
 
 pub returns : goal.returns
@@ -24,5 +22,5 @@ returns c =
     (λ truths is w Γ φ h.
     not_row w Γ truths φ
     (is w Γ φ (falsity_forced w)
-    (record { known = h.known; left_stands = h.stands; right_stands = subst (IsTruthTable w Γ (falsity_forced w)) (sym c.as_slice.ensures) (c.in_ok-falsity.ensures w Γ h.known) })))
+    (record { known = h.known; left_stands = h.stands; right_stands = c.in_ok-falsity.ensures w Γ h.known })))
     c.connect.ensures

@@ -11,11 +11,11 @@ place_of-id-requires c =
 pub function_table-requires-clause-part : goal.function_table-requires-clause-part
 function_table-requires-clause-part c =
     let (w, maps, Γ, T, t, h) = c.requires.known in
-    (w, Γ, c.args.ty.now, T, t, function_body w maps c.args.interpreter.now Γ c.args.context.now _ c.tuples.ensures _ c.args.ty.now T t c.args.body h _ (ap (λ V. Fun V c.in_ok-new-2.field-0) (c.in_ok-new.ensures ∙ c.in_ok-domain.ensures) ∙ ap (Fun c.args.ty.now) (c.in_ok-new-2.ensures ∙ h.stands.type_is)) _ c.place_of-id.ensures.place (c.as_slice.ensures ∙ c.in_ok-widths.ensures w maps h.known.knows) _ c.as_slice-2.ensures)
+    (w, Γ, c.args.ty.now, T, t, function_body w maps c.args.interpreter.now Γ c.args.context.now _ c.tuples.ensures _ c.args.ty.now T t c.args.body h _ (ap (λ V. Fun V c.in_ok-new-2.field-0) (c.in_ok-new.ensures ∙ c.in_ok-domain.ensures) ∙ ap (Fun c.args.ty.now) (c.in_ok-new-2.ensures ∙ h.stands.type_is)) _ c.place_of-id.ensures.place (c.as_slice.ensures ∙ c.in_ok-widths.ensures w maps h.known.knows))
 
 pub returns : goal.returns
 returns c = λ w maps Γ T t h. record {
   type_is = ap (λ V. Fun V c.in_ok-new-2.field-0) (c.in_ok-new.ensures ∙ c.in_ok-domain.ensures) ∙ ap (Fun c.args.ty.now) (c.in_ok-new-2.ensures ∙ h.stands.type_is);
   stands = c.in_ok-numbers.ensures.stands w Γ c.args.ty.now T t
-      (function_body w maps c.args.interpreter.now Γ c.args.context.now _ c.tuples.ensures _ c.args.ty.now T t c.args.body h _ (ap (λ V. Fun V c.in_ok-new-2.field-0) (c.in_ok-new.ensures ∙ c.in_ok-domain.ensures) ∙ ap (Fun c.args.ty.now) (c.in_ok-new-2.ensures ∙ h.stands.type_is)) _ c.place_of-id.ensures.place (c.as_slice.ensures ∙ c.in_ok-widths.ensures w maps h.known.knows) _ c.as_slice-2.ensures);
+      (function_body w maps c.args.interpreter.now Γ c.args.context.now _ c.tuples.ensures _ c.args.ty.now T t c.args.body h _ (ap (λ V. Fun V c.in_ok-new-2.field-0) (c.in_ok-new.ensures ∙ c.in_ok-domain.ensures) ∙ ap (Fun c.args.ty.now) (c.in_ok-new-2.ensures ∙ h.stands.type_is)) _ c.place_of-id.ensures.place (c.as_slice.ensures ∙ c.in_ok-widths.ensures w maps h.known.knows));
 }

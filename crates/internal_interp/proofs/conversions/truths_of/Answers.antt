@@ -11,11 +11,11 @@ unreachable-requires c = let (w, maps, Γ, t, known, h) = c.requires.known in ha
 pub formula_table-requires-clause-part : goal.formula_table-requires-clause-part
 formula_table-requires-clause-part c =
     let (w, maps, Γ, t, known, h) = c.requires.known in
-    (w, Γ, t, truth_values w maps _ Γ _ t known c.in-Value.value (subst (IsInterpreted w Γ Omega t) c.in-Value.is h) c.in-Some.omega c.in-Some.is _ _ c.tuples.ensures c.as_slice.ensures)
+    (w, Γ, t, truth_values w maps _ Γ _ t known c.in-Value.value (subst (IsInterpreted w Γ Omega t) c.in-Value.is h) c.in-Some.omega c.in-Some.is _ c.tuples.ensures)
 
 pub returns-in-Some : goal.returns-in-Some
 returns-in-Some c =
     IfOk-weaker c.formula_table.result _ _
     (λ truths is w maps Γ t known h.
-    is w Γ t (truth_values w maps _ Γ _ t known c.in-Value.value (subst (IsInterpreted w Γ Omega t) c.in-Value.is h) c.in-Some.omega c.in-Some.is _ _ c.tuples.ensures c.as_slice.ensures))
+    is w Γ t (truth_values w maps _ Γ _ t known c.in-Value.value (subst (IsInterpreted w Γ Omega t) c.in-Value.is h) c.in-Some.omega c.in-Some.is _ c.tuples.ensures))
     c.formula_table.ensures.stands

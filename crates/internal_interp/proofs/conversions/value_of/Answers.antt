@@ -15,7 +15,7 @@ pub truth_value_table-requires-clause-part : goal.truth_value_table-requires-cla
 truth_value_table-requires-clause-part c =
     let (w, maps, Γ, U, t, known, h) = c.requires.known in
     let f : IsForced w Γ U t c.in-Formula.truths = subst (IsInterpreted w Γ U t) c.in-Formula.is h in
-    (w, Γ, t, forced_parts w maps _ Γ _ t (subst (λ V. IsKnown w maps c.args.interpreter.now Γ V c.args.context.now t) f.formula known) c.in-Formula.truths f.stands c.in-Some.omega c.in-Some.is _ _ _ c.cat.ensures c.tuples.ensures c.as_slice.ensures)
+    (w, Γ, t, forced_parts w maps _ Γ _ t (subst (λ V. IsKnown w maps c.args.interpreter.now Γ V c.args.context.now t) f.formula known) c.in-Formula.truths f.stands c.in-Some.omega c.in-Some.is _ _ c.cat.ensures c.tuples.ensures)
 
 pub returns-in_ok-numbers-in-Some : goal.returns-in_ok-numbers-in-Some
 returns-in_ok-numbers-in-Some c = λ w maps Γ U t known h.
@@ -23,5 +23,5 @@ returns-in_ok-numbers-in-Some c = λ w maps Γ U t known h.
     record {
       type_is = sym f.formula;
       stands = subst (λ V. IsNumberTable w Γ V (value w t) c.in_ok-numbers-in-Some.numbers) (sym f.formula)
-          (c.in_ok-numbers-in-Some.ensures.stands w Γ t (forced_parts w maps _ Γ _ t (subst (λ V. IsKnown w maps c.args.interpreter.now Γ V c.args.context.now t) f.formula known) c.in-Formula.truths f.stands c.in-Some.omega c.in-Some.is _ _ _ c.cat.ensures c.tuples.ensures c.as_slice.ensures));
+          (c.in_ok-numbers-in-Some.ensures.stands w Γ t (forced_parts w maps _ Γ _ t (subst (λ V. IsKnown w maps c.args.interpreter.now Γ V c.args.context.now t) f.formula known) c.in-Formula.truths f.stands c.in-Some.omega c.in-Some.is _ _ c.cat.ensures c.tuples.ensures));
     }

@@ -15,8 +15,8 @@ image_table-requires-clause-parts c =
       _,
       _,
       t,
-      map_parts w maps c.args.interpreter.now Γ c.args.map c.args.context.now t c.args.argument h c.if-map-interpreter.true table is _ _ _ c.tuples.ensures
-          (c.as_slice.ensures ∙ ap (λ (x : MapTable). x.rows) (sym c.index-interpreter-map.is)) c.as_slice-then-map-interpreter.ensures,
+      map_parts w maps c.args.interpreter.now Γ c.args.map c.args.context.now t c.args.argument h c.if-map-interpreter.true table is _ _ c.tuples.ensures
+          (c.as_slice.ensures ∙ ap (λ (x : MapTable). x.rows) (sym c.index-interpreter-map.is)),
     )
 
 pub returns : goal.returns
@@ -32,6 +32,6 @@ returns-then-map-interpreter c = λ w maps Γ t h.
     record {
       type_is = c.in_ok-ty.ensures ∙ ap (λ (x : MapTable). x.ends.cod) (sym c.index-interpreter-map.is) ∙ map_type w maps c.args.interpreter.now Γ c.args.map c.args.context.now t c.args.argument h c.if-map-interpreter.true table is;
       stands = c.in_ok-numbers.ensures.stands w Γ c.args.map _ _ t
-          (map_parts w maps c.args.interpreter.now Γ c.args.map c.args.context.now t c.args.argument h c.if-map-interpreter.true table is _ _ _ c.tuples.ensures
-          (c.as_slice.ensures ∙ ap (λ (x : MapTable). x.rows) (sym c.index-interpreter-map.is)) c.as_slice-then-map-interpreter.ensures);
+          (map_parts w maps c.args.interpreter.now Γ c.args.map c.args.context.now t c.args.argument h c.if-map-interpreter.true table is _ _ c.tuples.ensures
+          (c.as_slice.ensures ∙ ap (λ (x : MapTable). x.rows) (sym c.index-interpreter-map.is)));
     }

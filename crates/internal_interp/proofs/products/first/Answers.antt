@@ -19,16 +19,14 @@ first_table-requires-clause-part c =
       S,
       T,
       t,
-      pair_table_of w maps c.args.interpreter.now Γ c.args.context.now S T t c.args.pair known h _ _ _ c.tuples.ensures
-          (c.as_slice.ensures ∙ c.in_ok-widths-in-Two.ensures w maps known.knows ∙ ap (widths_of w) (c.get.ensures ∙ same_second c.in-Two.left c.in-Two.right S T (sym c.in-Two.is ∙ h.type_is)))
-          c.as_slice-in-Two.ensures,
+      pair_table_of w maps c.args.interpreter.now Γ c.args.context.now S T t c.args.pair known h _ _ c.tuples.ensures
+          (c.as_slice.ensures ∙ c.in_ok-widths-in-Two.ensures w maps known.knows ∙ ap (widths_of w) (c.get.ensures ∙ same_second c.in-Two.left c.in-Two.right S T (sym c.in-Two.is ∙ h.type_is))),
     )
 
 pub returns : goal.returns
 returns c = λ w maps Γ S T t known h. record {
   type_is = c.in_ok-copy-in-Two.ensures ∙ c.get-in-Two.ensures ∙ same_first c.in-Two.left c.in-Two.right S T (sym c.in-Two.is ∙ h.type_is);
   stands = c.in_ok-numbers-in-Two.ensures.stands w Γ S T t
-      (pair_table_of w maps c.args.interpreter.now Γ c.args.context.now S T t c.args.pair known h _ _ _ c.tuples.ensures
-      (c.as_slice.ensures ∙ c.in_ok-widths-in-Two.ensures w maps known.knows ∙ ap (widths_of w) (c.get.ensures ∙ same_second c.in-Two.left c.in-Two.right S T (sym c.in-Two.is ∙ h.type_is)))
-      c.as_slice-in-Two.ensures);
+      (pair_table_of w maps c.args.interpreter.now Γ c.args.context.now S T t c.args.pair known h _ _ c.tuples.ensures
+      (c.as_slice.ensures ∙ c.in_ok-widths-in-Two.ensures w maps known.knows ∙ ap (widths_of w) (c.get.ensures ∙ same_second c.in-Two.left c.in-Two.right S T (sym c.in-Two.is ∙ h.type_is))));
 }

@@ -9,10 +9,10 @@ widths-requires-clause-held c = let (w, maps, Γ, S, T, t, u, h) = c.requires.kn
 pub pair_table-requires-clause-parts : goal.pair_table-requires-clause-parts
 pair_table-requires-clause-parts c =
     let (w, maps, Γ, S, T, t, u, h) = c.requires.known in
-    (w, Γ, S, T, t, u, pair_parts w maps _ Γ _ S T t u _ _ h _ _ _ _ c.tuples.ensures (c.as_slice.ensures ∙ c.in_ok-widths.ensures w maps h.first_known.knows) c.as_slice-2.ensures c.as_slice-3.ensures)
+    (w, Γ, S, T, t, u, pair_parts w maps _ Γ _ S T t u _ _ h _ _ c.tuples.ensures (c.as_slice.ensures ∙ c.in_ok-widths.ensures w maps h.first_known.knows))
 
 pub returns : goal.returns
 returns c = λ w maps Γ S T t u h. record {
   type_is = ap (λ V. Two V c.in_ok-new-2.field-0) (c.in_ok-new.ensures ∙ h.first.type_is) ∙ ap (Two S) (c.in_ok-new-2.ensures ∙ h.second.type_is);
-  stands = c.in_ok-numbers.ensures.stands w Γ S T t u (pair_parts w maps _ Γ _ S T t u _ _ h _ _ _ _ c.tuples.ensures (c.as_slice.ensures ∙ c.in_ok-widths.ensures w maps h.first_known.knows) c.as_slice-2.ensures c.as_slice-3.ensures);
+  stands = c.in_ok-numbers.ensures.stands w Γ S T t u (pair_parts w maps _ Γ _ S T t u _ _ h _ _ c.tuples.ensures (c.as_slice.ensures ∙ c.in_ok-widths.ensures w maps h.first_known.knows));
 }

@@ -9,11 +9,11 @@ place_of-id-requires c = let (w, maps, Γ, T, t, u, h) = c.requires.known in rec
 pub membership_table-requires-clause-parts : goal.membership_table-requires-clause-parts
 membership_table-requires-clause-parts c =
     let (w, maps, Γ, T, t, u, h) = c.requires.known in
-    (w, Γ, T, t, u, member_parts w maps c.args.interpreter.now Γ c.args.context.now _ c.tuples.ensures T t u c.args.element c.args.set h _ c.place_of-id.ensures.place _ _ c.as_slice.ensures c.as_slice-2.ensures)
+    (w, Γ, T, t, u, member_parts w maps c.args.interpreter.now Γ c.args.context.now _ c.tuples.ensures T t u c.args.element c.args.set h _ c.place_of-id.ensures.place)
 
 pub returns : goal.returns
 returns c =
     IfOk-weaker c.membership_table.result _ _
     (λ truths is w maps Γ T t u h.
-    is w Γ T t u (member_parts w maps c.args.interpreter.now Γ c.args.context.now _ c.tuples.ensures T t u c.args.element c.args.set h _ c.place_of-id.ensures.place _ _ c.as_slice.ensures c.as_slice-2.ensures))
+    is w Γ T t u (member_parts w maps c.args.interpreter.now Γ c.args.context.now _ c.tuples.ensures T t u c.args.element c.args.set h _ c.place_of-id.ensures.place))
     c.membership_table.ensures.stands

@@ -1,4 +1,4 @@
-use Rattle.std.proofs.Common.{◌≤◌, List, reverse, take}
+use Rattle.std.proofs.Common.{List, reverse, take}
 use Rattle.topos_model.specs.declared.context.MapTy.{MapTy}
 use Rattle.topos_model.specs.formulas.Forcing.{World}
 use Rattle.internal_interp.specs.Known.{Knows, IsScope}

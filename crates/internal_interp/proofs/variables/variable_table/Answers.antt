@@ -1,6 +1,5 @@
-use Rattle.std.proofs.Common.{◌≡◌, ◌+◌, ◌-◌, ◌*◌, ◌/◌, ℕ, List, length, get_or, drop, sym, ap, subst, ◌∙◌, arith, []}
+use Rattle.std.proofs.Common.{◌≡◌, ◌+◌, ◌-◌, length, get_or, drop, sym, ap, subst, ◌∙◌, arith, []}
 use Rattle.topos_model.specs.declared.ty.Ty.{One}
-use Rattle.truth_tables.specs.Tables.{table, number}
 use Rattle.truth_tables.specs.Standing.{IsNumberTable}
 use Rattle.internal_interp.proofs.TupleVariables.{variable_at}
 use Rattle.internal_interp.proofs.ContextVariables.{few_objects, widths_at, last_at, long_at, rows_at, outer_at, variable_is}
@@ -51,8 +50,7 @@ outer_variable-requires-clause-outer c =
     let (w, Γ, h) = c.requires.known in
     let k = c.args.k in
     let j = k - 1 - c.loop-within.within in
-    ap length c.as_slice.ensures
-    ∙ long_at w Γ c.args.context.now h j (omega (arith, c.requires.bound, ap length h.types, c.loop-within-test.true)) _ _ (c.row_at-in-loop-within.ensures ∙ ap (λ l. get_or l j []) c.as_slice-sizes.ensures) (c.row_at-in-loop-within-2.ensures ∙ ap (λ l. get_or l j []) c.as_slice-widths.ensures) (get_or Γ k One) c.loop-within.within (k - c.loop-within.within) (omega (arith, c.loop-within-test.true)) c.loop-within.numbers (c.loop-within.invariant w Γ h)
+    long_at w Γ c.args.context.now h j (omega (arith, c.requires.bound, ap length h.types, c.loop-within-test.true)) _ _ (c.row_at-in-loop-within.ensures ∙ ap (λ l. get_or l j []) c.as_slice-sizes.ensures) (c.row_at-in-loop-within-2.ensures ∙ ap (λ l. get_or l j []) c.as_slice-widths.ensures) (get_or Γ k One) c.loop-within.within (k - c.loop-within.within) (omega (arith, c.loop-within-test.true)) c.loop-within.numbers (c.loop-within.invariant w Γ h)
 
 pub outer_variable-requires-clause-tuples : goal.outer_variable-requires-clause-tuples
 outer_variable-requires-clause-tuples c = λ o below.
@@ -60,7 +58,6 @@ outer_variable-requires-clause-tuples c = λ o below.
     let k = c.args.k in
     let j = k - 1 - c.loop-within.within in
     rows_at w Γ c.args.context.now h j (omega (arith, c.requires.bound, ap length h.types, c.loop-within-test.true)) _ _ (c.row_at-in-loop-within.ensures ∙ ap (λ l. get_or l j []) c.as_slice-sizes.ensures) (c.row_at-in-loop-within-2.ensures ∙ ap (λ l. get_or l j []) c.as_slice-widths.ensures) (get_or Γ k One) c.loop-within.within (k - c.loop-within.within) (omega (arith, c.loop-within-test.true)) c.loop-within.numbers (c.loop-within.invariant w Γ h) o below
-    ∙ ap (λ (l : List (List ℕ)). length (get_or l o []) * get_or c.row_at-in-loop-within-2.result.now o 0) (sym c.as_slice.ensures)
 
 pub loop-within-preserved : goal.loop-within-preserved
 loop-within-preserved c = λ w Γ h.
@@ -69,4 +66,4 @@ loop-within-preserved c = λ w Γ h.
     let next : k - (c.loop-within.within + 1) ≡ j = omega (arith, c.loop-within-test.true) in
     subst (λ m. IsNumberTable w (drop m Γ) (get_or Γ k One) (variable_at w (c.loop-within.within + 1)) c.in_ok-numbers-2.numbers) (sym next)
     (outer_at w Γ c.args.context.now h j (omega (arith, c.requires.bound, ap length h.types, c.loop-within-test.true)) _ _ (c.row_at-in-loop-within.ensures ∙ ap (λ l. get_or l j []) c.as_slice-sizes.ensures) (c.row_at-in-loop-within-2.ensures ∙ ap (λ l. get_or l j []) c.as_slice-widths.ensures) (get_or Γ k One) c.loop-within.within (k - c.loop-within.within) (omega (arith, c.loop-within-test.true)) c.loop-within.numbers (c.loop-within.invariant w Γ h) _
-    (c.in_ok-numbers-2.ensures ∙ ap (λ (l : List (List ℕ)). table c.row_at-in-loop-within.result.now (λ o i. number l o (i / get_or c.row_at-in-loop-within-2.result.now o 0))) c.as_slice.ensures))
+    c.in_ok-numbers-2.ensures)

@@ -9,9 +9,9 @@ loop-c-preserved c =
     let at = c.loop-c.c in
     record {
       sizes = row-more (λ c. length (true_numbers (get_or truths c []))) at c.loop-c.sizes _ c.len.result c.loop-c.invariant.sizes c.in_ok-push.ensures.ok
-          (c.len.ensures ∙ ap length (c.in_ok-numbers.ensures.numbers ∙ ap true_numbers c.row_at.ensures));
+          (c.len.ensures ∙ ap length (c.in_ok-numbers.ensures.numbers ∙ ap true_numbers c.row.ensures));
       numbers = row-more (λ c. true_numbers (get_or truths c [])) at c.loop-c.all_numbers _ c.in_ok-numbers.numbers c.loop-c.invariant.numbers c.in_ok-push-2.ensures.ok
-          (c.in_ok-numbers.ensures.numbers ∙ ap true_numbers c.row_at.ensures);
+          (c.in_ok-numbers.ensures.numbers ∙ ap true_numbers c.row.ensures);
       places = row-more (λ c. true_counts (get_or truths c [])) at c.loop-c.all_places _ c.in_ok-numbers.places c.loop-c.invariant.places c.in_ok-push-3.ensures.ok
-          (c.in_ok-numbers.ensures.places ∙ ap true_counts c.row_at.ensures);
+          (c.in_ok-numbers.ensures.places ∙ ap true_counts c.row.ensures);
     }

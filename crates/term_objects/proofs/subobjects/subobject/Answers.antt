@@ -50,14 +50,14 @@ part-requires c =
     let scope = c.in_ok-context.ensures.scope (world_of w tables) (ends_of tables) serves.knows in
     let known = known_one w tables i serves T φ Omega c.requires.formula c.as_slice.result.now one c.in_ok-context.context scope in
     let sealed = (scope_one w tables i serves T φ Omega c.requires.formula c.as_slice.result.now one c.in_ok-context.context scope).known in
-    let stands = subst (IsTruthTable (world_of w tables) (T ∷ []) (forces (world_of w tables) φ)) (sym c.as_slice-2.ensures) (c.in_ok-truths.ensures.truths (world_of w tables) (ends_of tables) (T ∷ []) known) in
+    let stands = c.in_ok-truths.ensures.truths (world_of w tables) (ends_of tables) (T ∷ []) known in
     record {
       known = (
         w.site,
         w.functors,
         T,
         satisfies w tables T φ,
-        true_elements w tables T φ c.requires.formula serves.knows.lawful c.as_slice-2.result.now stands c.cat.result.now i.store.now c.in_ok-context.context.place
+        true_elements w tables T φ c.requires.formula serves.knows.lawful c.in_ok-truths.truths stands c.cat.result.now i.store.now c.in_ok-context.context.place
             (c.cat.ensures ∙ ap (λ (s : Site). s.category) (sym serves.knows.site)) serves.knows.faithful (record { low = sealed.sealed; key = sealed.key }),
       );
     }
@@ -74,7 +74,7 @@ returns c =
     let scope = c.in_ok-context.ensures.scope (world_of w tables) (ends_of tables) serves.knows in
     let known = known_one w tables i serves T φ Omega c.requires.formula c.as_slice.result.now one c.in_ok-context.context scope in
     let sealed = (scope_one w tables i serves T φ Omega c.requires.formula c.as_slice.result.now one c.in_ok-context.context scope).known in
-    let stands = subst (IsTruthTable (world_of w tables) (T ∷ []) (forces (world_of w tables) φ)) (sym c.as_slice-2.ensures) (c.in_ok-truths.ensures.truths (world_of w tables) (ends_of tables) (T ∷ []) known) in
-    let true_ones = true_elements w tables T φ c.requires.formula serves.knows.lawful c.as_slice-2.result.now stands c.cat.result.now i.store.now c.in_ok-context.context.place
+    let stands = c.in_ok-truths.ensures.truths (world_of w tables) (ends_of tables) (T ∷ []) known in
+    let true_ones = true_elements w tables T φ c.requires.formula serves.knows.lawful c.in_ok-truths.truths stands c.cat.result.now i.store.now c.in_ok-context.context.place
     (c.cat.ensures ∙ ap (λ (s : Site). s.category) (sym serves.knows.site)) serves.knows.faithful (record { low = sealed.sealed; key = sealed.key }) in
     record { subobject = IfOk-weaker c.part.result _ _ (λ made is. part_satisfies w tables T φ made (is w.site w.functors T (satisfies w tables T φ) true_ones)) c.part.ensures }

@@ -1,4 +1,6 @@
-use Rattle.std.proofs.Common.{[], ◌∷◌, sym, ◌∙◌}
+use Rattle.std.proofs.Common.{[], ◌∷◌, sym, subst, ◌∙◌}
+use Rattle.topos_model.specs.formulas.Forcing.{value}
+use Rattle.truth_tables.specs.Standing.{IsNumberTable}
 use Rattle.formula_answers.specs.MapTables.{ends_of}
 use Rattle.formula_answers.specs.Formulas.{world_of}
 use Rattle.term_objects.proofs.OneVariable.{held_one, few_one, known_one}
@@ -45,6 +47,7 @@ returns c = record {
       let known = known_one w tables c.interpreter-interpreter.result serves c.args.ty.now c.args.term.now U h c.as_slice.result.now (c.as_slice.ensures ∙ c.in_ok-types.ensures) c.in_ok-context.context
       (c.in_ok-context.ensures.scope (world_of w tables) (ends_of tables) serves.knows) in
       let valued = c.in_ok-values.ensures.values (world_of w tables) (ends_of tables) (c.args.ty.now ∷ []) U known in
-      term_map_is w tables c.args.ty.now c.args.term.now U h serves.knows.lawful c.in_ok-values.values.numbers valued.stands
+      let stands = subst (IsNumberTable (world_of w tables) (c.args.ty.now ∷ []) U (value (world_of w tables) c.args.term.now)) (sym c.in_ok-rows.ensures) valued.stands in
+      term_map_is w tables c.args.ty.now c.args.term.now U h serves.knows.lawful c.in_ok-rows.rows stands
       c.requires.type_range c.requires.range c.in_ok-dom.dom c.in_ok-values.values.ty c.in_ok-dom.ensures valued.type_is;
 }

@@ -1,4 +1,4 @@
-use Rattle.std.proofs.Common.{◌≡◌, sym, subst, ◌∙◌, arith}
+use Rattle.std.proofs.Common.{◌≡◌, sym, subst, arith}
 use Rattle.std.proofs.lemmas.Result.{IfOk-weaker}
 use Rattle.functor_store.specs.Store.{functor_at}
 use Rattle.truth_tables.specs.Tables.{table}
@@ -22,7 +22,7 @@ abstractions-requires c =
     let e = c.as_slice.ensures in
     let context = functor_at c.args.store.now.sealed c.args.context in
     let F = functor_at c.args.store.now.sealed c.args.id in
-    let digits : c.as_slice-2.result.now ≡ table c.args.inner.now (digit_of c.args.body.now) = c.as_slice-2.ensures ∙ c.in_ok-digits.ensures in
+    let digits : c.in_ok-digits.digits ≡ table c.args.inner.now (digit_of c.args.body.now) = c.in_ok-digits.ensures in
     let r = restricted_slice w Γ c.args.stages.now c.args.store.now c.args.context c.args.sizes.now h.known c.as_slice.result.now e in
     record {
       objects = c.requires.objects;
@@ -31,9 +31,9 @@ abstractions-requires c =
       sources = r.objects;
       tuples = λ o low. sym (r.counts o low);
       arrows = r.arrows;
-      rise = subset_rows_rise w Γ T φ c.args.stages.now c.args.store.now c.args.context c.args.id c.args.sizes.now c.args.inner.now c.args.widths.now c.args.body.now h c.as_slice-2.result.now digits;
-      there = subst (λ s. AreThere context F c.args.sizes.now s c.args.widths.now c.as_slice-2.result.now) (sym e)
-          (subsets_there w Γ T φ c.args.stages.now c.args.store.now c.args.context c.args.id c.args.sizes.now c.args.inner.now c.args.widths.now c.args.body.now h c.as_slice-2.result.now digits);
+      rise = subset_rows_rise w Γ T φ c.args.stages.now c.args.store.now c.args.context c.args.id c.args.sizes.now c.args.inner.now c.args.widths.now c.args.body.now h c.in_ok-digits.digits digits;
+      there = subst (λ s. AreThere context F c.args.sizes.now s c.args.widths.now c.in_ok-digits.digits) (sym e)
+          (subsets_there w Γ T φ c.args.stages.now c.args.store.now c.args.context c.args.id c.args.sizes.now c.args.inner.now c.args.widths.now c.args.body.now h c.in_ok-digits.digits digits);
     }
 
 pub returns : goal.returns
@@ -41,7 +41,7 @@ returns c = record {
   stands = IfOk-weaker c.abstractions.result _ _ (λ rows made w Γ T φ h.
       let context = functor_at c.args.store.now.sealed c.args.context in
       let F = functor_at c.args.store.now.sealed c.args.id in
-      let digits : c.as_slice-2.result.now ≡ table c.args.inner.now (digit_of c.args.body.now) = c.as_slice-2.ensures ∙ c.in_ok-digits.ensures in
-      subset_numbers w Γ T φ c.args.stages.now c.args.store.now c.args.context c.args.id c.args.sizes.now c.args.inner.now c.args.widths.now c.args.body.now h c.as_slice-2.result.now digits rows
-      (subst (λ s. AreNumbered context F c.args.sizes.now s c.args.widths.now c.as_slice-2.result.now rows) c.as_slice.ensures made)) c.abstractions.ensures;
+      let digits : c.in_ok-digits.digits ≡ table c.args.inner.now (digit_of c.args.body.now) = c.in_ok-digits.ensures in
+      subset_numbers w Γ T φ c.args.stages.now c.args.store.now c.args.context c.args.id c.args.sizes.now c.args.inner.now c.args.widths.now c.args.body.now h c.in_ok-digits.digits digits rows
+      (subst (λ s. AreNumbered context F c.args.sizes.now s c.args.widths.now c.in_ok-digits.digits rows) c.as_slice.ensures made)) c.abstractions.ensures;
 }

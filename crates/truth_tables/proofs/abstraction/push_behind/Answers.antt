@@ -11,4 +11,4 @@ loop-j-preserved c =
     let j = c.loop-j.j in
     joined-more (behind sources c.args.restrictions.now widths c.args.body.now) j c.args.out.now c.loop-j.out c.push_row.new.numbers c.loop-j.invariant
     (c.in_ok-push_row.ensures ∙ ap (λ (l : List ℕ). c.loop-j.out ++ l)
-    (c.block.ensures ∙ ap (block (get_or widths (get_or sources j 0) 0) (get_or c.args.restrictions.now j 0)) c.row_at.ensures))
+    (c.block.ensures ∙ ap (block (get_or widths (get_or sources j 0) 0) (get_or c.args.restrictions.now j 0)) c.row.ensures))
