@@ -2,6 +2,7 @@
 ghost use Rattle.std.specs.Prelude.{◌<◌};
 
 mod covers;
+mod elements;
 mod formulas;
 mod texts;
 

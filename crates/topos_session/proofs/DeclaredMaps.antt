@@ -14,7 +14,7 @@ use Rattle.topos_model.specs.declared.term.Term.{Term}
 use Rattle.topos_model.specs.declared.value.Val.{Val, El}
 use Rattle.topos_model.specs.declared.doc.Doc.{Doc}
 use Rattle.topos_model.specs.declared.stmt.Stmt.{Stmt}
-use Rattle.topos_model.specs.declared.stmt.Stmt.TheVariants.{Show, Classify, Valid, Let}
+use Rattle.topos_model.specs.declared.stmt.Stmt.TheVariants.{Build, Sub, Let, Show, Classify, Valid}
 use Rattle.topos_model.specs.declared.fault.Fault.{Fault}
 use Rattle.topos_model.specs.declared.fault.Fault.TheVariants.{NotASheaf, NotParallel, WrongTopology}
 use Rattle.topos_model.specs.categories.Category.{Category}
@@ -24,7 +24,7 @@ use Rattle.topos_model.specs.presheaves.Maps.{Components}
 use Rattle.topos_model.specs.categories.Filling.{filled_category}
 use Rattle.topos_model.specs.topologies.Sheaves.{sheaf_fault}
 use Rattle.topos_model.specs.formulas.Typing.{typed}
-use Rattle.topos_model.specs.statements.Needs.{named, under, term_needs, terms_of, types_of, is_functor, first_no_sheaf}
+use Rattle.topos_model.specs.statements.Needs.{named, under, parts, term_needs, terms_of, types_of, is_functor, first_no_sheaf}
 use Rattle.topos_model.specs.statements.StatementFaults.{applied, is_foreign, foreign_map_fault, formula_fault, term_fault, size_fault, typing_fault}
 use Rattle.topos_model.specs.statements.Declarations.{Declared, DeclaredMap, site_of, map_ends, world_under, functor_at, map_at, ends_at, domain_at, codomain_at, components_at}
 use Rattle.topos_model.specs.statements.Answers.{element_pairs}
@@ -179,6 +179,14 @@ module _ (doc : Doc) (so : Declarations) (types : List (ℕ × List Ty)) where
       pub valid_refusal : (ctx : Ctx) (φ : Term) → refusal doc d (Valid j ctx φ) ≡ formula_refusal so.world so.maps j ctx φ
       unfolding refusal types_of terms_of under typing_fault ends_fit
       valid_refusal ctx φ = formula_turn (Valid j ctx φ) ctx φ refl refl refl refl
+
+      pub build_refusal : (z : ℕ) (T : Ty) (u v : ℕ) → refusal doc d (Build j z T u v) ≡ refusal_in_turn so.world j None (parts T)
+      unfolding refusal types_of terms_of under typing_fault ends_fit
+      build_refusal z T u v = in_turn (Build j z T u v) None (parts T) (sym (append-nil (parts T))) refl refl refl
+
+      pub sub_refusal : (z : ℕ) (T : Ty) (φ : Term) (i : ℕ) → refusal doc d (Sub j z T φ i) ≡ refusal_in_turn so.world j (formula_fault (ends_of so.maps) (T ∷ [], φ)) (map_needs so.maps T φ)
+      unfolding refusal types_of terms_of under typing_fault ends_fit
+      sub_refusal z T φ i = formula_turn (Sub j z T φ i) (record { types = T ∷ [] }) φ refl refl refl refl
 
       pub let_refusal : (m : ℕ) (T : Ty) (t : Term) → refusal doc d (Let j m T t) ≡ refusal_in_turn so.world j (term_map_fault so.maps T t) (map_needs so.maps T t)
       unfolding refusal types_of terms_of under typing_fault ends_fit term_map_fault

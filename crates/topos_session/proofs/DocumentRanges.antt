@@ -4,7 +4,7 @@ use Rattle.std.specs.List.{list_all}
 use Rattle.std.proofs.lemmas.Bool.{and_parts, leb-true}
 use Rattle.std.proofs.Math.Seq.{drop-cons}
 use Rattle.topos_model.specs.declared.stmt.Stmt.{Stmt}
-use Rattle.topos_model.specs.declared.stmt.Stmt.TheVariants.{Presheaf, Map, Product, Coproduct, Equalizer, Coequalizer, Pullback, Pushout, Image, Empty, Sheaf, Hom, Show, Classify, Valid, Let}
+use Rattle.topos_model.specs.declared.stmt.Stmt.TheVariants.{Presheaf, Map, Product, Coproduct, Equalizer, Coequalizer, Pullback, Pushout, Image, Empty, Sheaf, Hom, Build, Sub, Let, Show, Classify, Valid}
 use Rattle.topos_model.specs.declared.doc.Doc.{Doc}
 use Rattle.topos_model.specs.categories.Listed.{all_ends}
 use Rattle.topos_model.specs.statements.Form.{is_category_listing}
@@ -108,6 +108,8 @@ declares_few (Show under ctx φ) made e = few 0 0 made e (omega arith) (omega ar
 declares_few (Classify under ctx φ) made e = few 0 0 made e (omega arith) (omega arith)
 declares_few (Valid under ctx φ) made e = few 0 0 made e (omega arith) (omega arith)
 declares_few (Let under m T t) made e = few 0 1 made e (omega arith) (omega arith)
+declares_few (Build under z T u v) made e = few 1 2 made e (omega arith) (omega arith)
+declares_few (Sub under z T φ i) made e = few 1 1 made e (omega arith) (omega arith)
 declares_few _ made e = cc
 
 -- a statement of a kind that is not run asks for nothing
@@ -128,4 +130,6 @@ unasked objects ends n l (Show under ctx φ) e = cc
 unasked objects ends n l (Classify under ctx φ) e = cc
 unasked objects ends n l (Valid under ctx φ) e = cc
 unasked objects ends n l (Let under m T t) e = cc
+unasked objects ends n l (Build under z T u v) e = cc
+unasked objects ends n l (Sub under z T φ i) e = cc
 unasked objects ends n l _ e = refl

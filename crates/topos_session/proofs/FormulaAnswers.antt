@@ -42,9 +42,9 @@ use Rattle.topos_session.specs.declared.stop.Stop.TheVariants as stop
 use Rattle.topos_session.specs.Ranges.{declares}
 use Rattle.topos_session.specs.Functors.{AreFunctors, functor_at}
 use Rattle.topos_session.specs.Declarations.{AreLawful}
-use Rattle.topos_session.specs.Statements.{no_sheaf_among, formula_refusal, formula_needs, refusal_over, AnswersOver, IsTypeStop, IsSheafStop, AreSealed, IsSealStop, IsTermSealed, IsTermStop, refusal_in_turn, IsFormulaSealed, IsFormulaStop, IsAnsweredOver, IsStoppedOver, by_types, type_stop, store_stop}
+use Rattle.topos_session.specs.Statements.{no_sheaf_among, formula_refusal, formula_needs, refusal_over, AnswersOver, IsTypeStop, IsSheafStop, AreSealed, IsSealStop, AreNeedsSealed, IsTermSealed, IsNeedsStop, refusal_in_turn, IsFormulaSealed, IsFormulaStop, IsAnsweredOver, IsStoppedOver, by_types, type_stop, store_stop}
 use Rattle.topos_session.proofs.FormulaStatements.{needs_sheaves}
-use Rattle.topos_session.proofs.LawfulDeclarations.{lawful_sealed}
+use Rattle.topos_session.proofs.SealedNeeds.{needs_stopped, lawful_then, answered}
 
 -- what a test finds depends on the members alone
 any_same : {A : Type 0} (p : A → Bool) (xs ys : List A) → ((x : A) → In xs x → In ys x) → ((x : A) → In ys x → In xs x) → list_any p xs ≡ list_any p ys
@@ -180,12 +180,22 @@ module _ (so : Declarations) (under : ℕ) (fault : Option Fault) (needed : List
       same_sheaves : no_sheaf_among so.world needed ≡ no_sheaf_among so.world (flat_map parts types)
       same_sheaves = among_same so.world needed (flat_map parts types) (λ T i. (counted T).1 i) (λ T i. (counted T).0 i)
 
-      pub seal_stops : (s : Stop) → IsSealStop types so s → IsTermStop under fault needed so s
+      pub seal_stops : (s : Stop) → IsSealStop types so s → IsNeedsStop under fault needed so s
       seal_stops (stop.Refused found) h = for_sheaves ∙ same_sheaves ∙ h
       seal_stops stop.Budget h = (for_sheaves ∙ same_sheaves ∙ h.0, let over = h.1 in omega (arith, over, same_cost))
       seal_stops stop.NoMemory h = tt
 
-      -- where the types are sealed, the term is over the world
+      -- where the types are sealed, the statement is accepted
+      pub needs_sealed : (mid : Declarations) → AreSealed types so mid → AreNeedsSealed under fault needed so mid
+      needs_sealed mid sealed = record {
+        accepted = for_sheaves ∙ same_sheaves ∙ sealed.sheaves;
+        maps = sealed.maps;
+        types = same_growth mid.world sealed.grown;
+        types_fit = let fit = sealed.fit in omega (arith, fit, same_cost);
+        within = sealed.within;
+      }
+
+      -- and the term is over the world
       pub term_sealed : (Γ : List Ty) (t : Term) (U : Ty) (k : Category) → typed (ends_of so.maps) Γ t ≡ Ok U → needed ≡ term_needs (ends_of so.maps) Γ t → AreLawful k so →
           ((n : ℕ) → In needed (Base n) → n < length so.world.functors) → IsCategory so.world.site.category → IsTopology so.world.site → (mid : Declarations) → AreSealed types so mid →
           IsTermSealed under fault needed Γ t U so mid
@@ -197,11 +207,7 @@ module _ (so : Declarations) (under : ℕ) (fault : Option Fault) (needed : List
           let none : no_sheaf_among so.world (term_needs (ends_of so.maps) Γ t) ≡ None = subst (λ l. no_sheaf_among so.world l ≡ None) is (same_sheaves ∙ sealed.sheaves) in
           let low : (n : ℕ) → In (term_needs (ends_of so.maps) Γ t) (Base n) → n < length so.world.functors = subst (λ l. (n : ℕ) → In l (Base n) → n < length so.world.functors) is named in
           record {
-            accepted = for_sheaves ∙ same_sheaves ∙ sealed.sheaves;
-            maps = sealed.maps;
-            types = by;
-            types_fit = let fit = sealed.fit in omega (arith, fit, same_cost);
-            within = sealed.within;
+            needs = needs_sealed mid sealed;
             term = record {
               maps = rw (site, functors, sealed.maps) lawful.maps;
               typing = rw sealed.maps typing;
@@ -219,35 +225,17 @@ type_stops so under ctx φ first stop.Budget h = absurd h
 type_stops so under ctx φ first stop.NoMemory h = tt
 
 -- a statement about the formula
-module _ (k : Category) (so : Declarations) (under : ℕ) (ctx : Ctx) (φ : Term) (stmt : Stmt) (refusal_is : refusal_over k so stmt ≡ formula_refusal so.world so.maps under ctx φ) (needs_are : needs (ends_of so.maps) stmt ≡ formula_needs so.maps ctx φ)
-    (none : declares stmt ≡ Some (0, 0)) where
-  pub formula_stopped : (s : Stop) → IsFormulaStop under ctx φ so s → IsStoppedOver k so stmt s
-  formula_stopped (stop.Refused fault) h = refusal_is ∙ h
-  formula_stopped stop.Budget h = by_types (refusal_is ∙ h.0) (subst (λ l. so.world.budget < cells_with so.world l) (sym needs_are) h.1)
-  formula_stopped stop.NoMemory h = tt
+module _ (k : Category) (so : Declarations) (under : ℕ) (ctx : Ctx) (φ : Term) (stmt : Stmt) (refusal_is : refusal_over k so stmt ≡ formula_refusal so.world so.maps under ctx φ) (needs_are : needs (ends_of so.maps) stmt ≡ formula_needs so.maps ctx φ) where
+  abbrev fault : Option Fault
+  fault = formula_fault (ends_of so.maps) (reverse ctx.types, φ)
 
-  pub formula_answered : (mid : Declarations) (answer : Answer) → IsFormulaSealed under ctx φ so mid → AnswersOver k mid stmt answer mid → AreLawful k so → IsAnsweredOver k so stmt answer mid
-  formula_answered mid answer h answers lawful =
-      let functors : mid.world.functors ≡ so.world.functors = ap (λ (w : CountedWorld). w.functors) h.types.grown.is in
-      record {
-        accepted = refusal_is ∙ h.accepted;
-        mid = mid;
-        sealed = record { maps = h.maps; types = subst (λ l. IsGrownBy l so.world mid.world) (sym needs_are) h.types };
-        types_fit = subst (λ l. cells_with so.world l ≤ so.world.budget) (sym needs_are) h.types_fit;
-        answers = answers;
-        within = h.within;
-        lawful = lawful_sealed k so lawful mid (ap (λ (w : CountedWorld). w.site) h.types.grown.is) functors h.maps;
-        declared = none ∙ counts (length mid.world.functors) (length so.world.functors) (length mid.maps) (length so.maps) (ap length functors) (ap length h.maps);
-        functors = let e = ap length functors in omega (arith, e);
-        maps = ([], h.maps ∙ sym (append-nil so.maps));
-        kept = (ap (λ (w : CountedWorld). w.site) h.types.grown.is, refl, ap (λ (w : CountedWorld). w.budget) h.types.grown.is);
-      }
-    where
-      counts : (a b c d : ℕ) → a ≡ b → c ≡ d → ◌≡◌ {A = Option (ℕ × ℕ)} (Some (0, 0)) (Some (a - b, c - d))
-      counts a b c d e f = same (a - b) (c - d) (omega (arith, e)) (omega (arith, f))
-        where
-          same : (x y : ℕ) → 0 ≡ x → 0 ≡ y → ◌≡◌ {A = Option (ℕ × ℕ)} (Some (0, 0)) (Some (x, y))
-          same x y p q = rw (sym p, sym q) refl
+  pub formula_stopped : (s : Stop) → IsFormulaStop under ctx φ so s → IsStoppedOver k so stmt s
+  formula_stopped = needs_stopped k so stmt under fault (formula_needs so.maps ctx φ) refusal_is needs_are
+
+  pub formula_answered : declares stmt ≡ Some (0, 0) → (mid : Declarations) (answer : Answer) → IsFormulaSealed under ctx φ so mid → AnswersOver k mid stmt answer mid → AreLawful k so → IsAnsweredOver k so stmt answer mid
+  formula_answered none mid answer h answers lawful =
+      answered k so stmt under fault (formula_needs so.maps ctx φ) refusal_is needs_are mid h.needs answer mid 0 [] none answers (lawful_then k so stmt under fault (formula_needs so.maps ctx φ) refusal_is needs_are mid h.needs lawful)
+      (omega arith) (sym (append-nil mid.maps)) refl refl refl h.needs.within
 
 -- what each of the three counts
 pub needs-Show : (tables : List MapTable) (under : ℕ) (ctx : Ctx) (φ : Term) → needs (ends_of tables) (Show under ctx φ) ≡ formula_needs tables ctx φ

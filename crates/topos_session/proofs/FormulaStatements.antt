@@ -17,7 +17,7 @@ use Rattle.topos_model.specs.declared.context.Ctx.{Ctx}
 use Rattle.topos_model.specs.declared.context.MapTy.{MapTy}
 use Rattle.topos_model.specs.declared.context.MapTable.{MapTable}
 use Rattle.topos_model.specs.declared.stmt.Stmt.{Stmt}
-use Rattle.topos_model.specs.declared.stmt.Stmt.TheVariants.{Presheaf as PresheafStmt, Map, Product, Coproduct, Equalizer, Coequalizer, Pullback, Pushout, Image, Empty, Sheaf, Hom, Show, Classify, Valid, Let}
+use Rattle.topos_model.specs.declared.stmt.Stmt.TheVariants.{Presheaf as PresheafStmt, Map, Product, Coproduct, Equalizer, Coequalizer, Pullback, Pushout, Image, Empty, Sheaf, Hom, Build, Sub, Let, Show, Classify, Valid}
 use Rattle.topos_model.specs.topologies.Cover.{Site}
 use Rattle.topos_model.specs.topologies.Sheaves.{IsSheaf, OfSheaves, sheaf_fault}
 use Rattle.topos_model.specs.Laws.{IsCategory, IsTopology}
@@ -61,6 +61,10 @@ module _ (s : Site) (functors : List Presheaf) where
 pub context_range : (n l : ℕ) (ctx : Ctx) (φ : Term) → is_formula_in_range n l ctx φ ≡ true → list_all (is_type_in_range n) (reverse ctx.types) ≡ true
 unfolding is_formula_in_range
 context_range n l ctx φ range = each_all (is_type_in_range n) (reverse ctx.types) (λ T j. all_each (is_type_in_range n) ctx.types T (and_parts _ _ range).0 (In-reverse ctx.types T j))
+
+pub formula_over_one : (n l : ℕ) (ctx : Ctx) (T : Ty) (φ : Term) → ctx.types ≡ T ∷ [] → is_type_in_range n T ≡ true → is_term_in_range n l φ ≡ true → is_formula_in_range n l ctx φ ≡ true
+unfolding is_formula_in_range
+formula_over_one n l ctx T φ types type term = rw (types, type, term) refl
 
 pub formula_range : (n l : ℕ) (ctx : Ctx) (φ : Term) → is_formula_in_range n l ctx φ ≡ true → is_term_in_range n l φ ≡ true
 unfolding is_formula_in_range
@@ -158,6 +162,8 @@ needs_settled maps more objects ends n (Show under ctx φ) range built = formula
 needs_settled maps more objects ends n (Classify under ctx φ) range built = formula_stable maps more n ctx φ range
 needs_settled maps more objects ends n (Valid under ctx φ) range built = formula_stable maps more n ctx φ range
 needs_settled maps more objects ends n (Let under m T t) range built = ap (λ l. l ++ []) (needs_stable n maps more (T ∷ []) t (and_parts _ _ range).1)
+needs_settled maps more objects ends n (Build under z T u v) range built = refl
+needs_settled maps more objects ends n (Sub under z T φ i) range built = ap (λ l. l ++ []) (needs_stable n maps more (T ∷ []) φ (and_parts _ _ range).1)
 needs_settled maps more objects ends n (PresheafStmt functor raw) range built = refl
 needs_settled maps more objects ends n (Map m x y raw) range built = refl
 needs_settled maps more objects ends n (Product x y z p q) range built = refl

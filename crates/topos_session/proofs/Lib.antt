@@ -22,4 +22,7 @@ pub mod CellsSoFar
 pub mod NoTypes
 pub mod TypeNodes
 pub mod TermMaps
+pub mod SealedNeeds
+pub mod ElementPresheaves
+pub mod ElementStatements
 mod WorkedRuns

@@ -1,15 +1,15 @@
 -- Functors and maps as they are shown, and lists of maps.
-use Rattle.std.proofs.Common.{◌≡◌, ℕ, ◌+◌, ◌*◌, ◌/◌, ◌<◌, ◌≤◌, List, [], ◌∷◌, ◌++◌, map, length, get_or, take, drop, sum, refl, sym, ap, ◌∙◌, subst, append-nil, arith}
+use Rattle.std.proofs.Common.{◌≡◌, ℕ, ◌+◌, ◌*◌, ◌/◌, ◌<◌, ◌≤◌, List, [], ◌∷◌, ◌++◌, map, length, get_or, take, drop, sum, refl, sym, ap, ap₂, ◌∙◌, subst, append-nil, arith}
 use Rattle.std.specs.List.{range_with_len}
 use Rattle.std.proofs.lemmas.List.{drop_all, take_all, take_more, get_or_default}
 use Rattle.std.proofs.lemmas.List.Sums.{sum_by-append}
 use Rattle.std.proofs.lemmas.List.FromFn.{map-range_with_len_more}
-use Rattle.topos_model.specs.declared.value.Val.{Val, El}
+use Rattle.topos_model.specs.declared.value.Val.{Val, El, Star}
 use Rattle.topos_model.specs.declared.answer.Shape.{Shape}
 use Rattle.topos_model.specs.categories.Category.{Category}
 use Rattle.topos_model.specs.types.Types.{Presheaf}
 use Rattle.topos_model.specs.statements.Cells.{hom_cells}
-use Rattle.topos_model.specs.statements.Answers.{shape_of, map_shape, functor_map, element_pairs}
+use Rattle.topos_model.specs.statements.Answers.{shape_of, map_shape, functor_map, element_pairs, numbers_with, with_numbers}
 use Rattle.topos_model.specs.presheaves.Maps.{Components}
 use Rattle.topos_session.specs.Declarations.{declared_between}
 use Rattle.topos_session.specs.Constructions.{between}
@@ -57,3 +57,16 @@ hom_cost X n = refl
 
 pub not_too_many : (X : Presheaf) (n budget : ℕ) → n ≤ budget / (1 + sum X.sizes) → n * (1 + sum X.sizes) ≤ budget
 not_too_many X n budget few = within_share budget n (sum X.sizes) few
+
+-- the first pairs of a list that is given by the numbers, with the next one
+pub next_pair : (f : ℕ → Val × Val) (n : ℕ) (pairs : List (Val × Val)) (p : Val × Val) → p ≡ f n → pairs ≡ map f (range_with_len 0 n) → (pairs ++ p ∷ []) ≡ map f (range_with_len 0 (n + 1))
+next_pair f n pairs p next first = ap₂ (λ (l : List (Val × Val)) (q : Val × Val). l ++ q ∷ []) first next ∙ sym (map-range_with_len_more f 0 n n (omega arith))
+
+-- numbers with their values, and values with their numbers
+pub all_numbers_with : (values : List Val) (n : ℕ) (pairs : List (Val × Val)) → length values ≡ n → pairs ≡ map (λ n. (El n, get_or values n Star)) (range_with_len 0 n) → pairs ≡ numbers_with values
+unfolding numbers_with
+all_numbers_with values n pairs whole first = first ∙ ap (λ m. map (λ n. (El n, get_or values n Star)) (range_with_len 0 m)) (sym whole)
+
+pub all_with_numbers : (values : List Val) (n : ℕ) (pairs : List (Val × Val)) → length values ≡ n → pairs ≡ map (λ n. (get_or values n Star, El n)) (range_with_len 0 n) → pairs ≡ with_numbers values
+unfolding with_numbers
+all_with_numbers values n pairs whole first = first ∙ ap (λ m. map (λ n. (get_or values n Star, El n)) (range_with_len 0 m)) (sym whole)

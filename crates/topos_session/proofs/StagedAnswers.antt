@@ -15,7 +15,7 @@ use Rattle.topos_model.specs.declared.raw.RawFunctor.{RawFunctor}
 use Rattle.topos_model.specs.declared.raw.RawMap.{RawMap}
 use Rattle.topos_model.specs.declared.doc.Doc.{Doc}
 use Rattle.topos_model.specs.declared.stmt.Stmt.{Stmt}
-use Rattle.topos_model.specs.declared.stmt.Stmt.TheVariants.{Presheaf, Map, Product, Coproduct, Equalizer, Coequalizer, Pullback, Pushout, Image, Empty, Sheaf, Hom, Show, Classify, Valid, Let}
+use Rattle.topos_model.specs.declared.stmt.Stmt.TheVariants.{Presheaf, Map, Product, Coproduct, Equalizer, Coequalizer, Pullback, Pushout, Image, Empty, Sheaf, Hom, Build, Sub, Let, Show, Classify, Valid}
 use Rattle.topos_model.specs.declared.answer.Answer.{Answer}
 use Rattle.topos_model.specs.declared.answer.Answer.TheVariants.{Built, Shown, Classified, Verdict}
 use Rattle.topos_model.specs.declared.fault.Fault.{Fault}
@@ -34,11 +34,11 @@ use Rattle.topos_model.specs.statements.Needs.{named, under, terms_of, types_of}
 use Rattle.topos_model.specs.statements.Cells.{is_named, objects_of}
 use Rattle.topos_model.specs.statements.StatementFaults.{foreign_map_fault, typing_fault}
 use Rattle.topos_model.specs.formulas.Typing.{typed}
-use Rattle.topos_model.specs.formulas.Forcing.{World, shown}
+use Rattle.topos_model.specs.formulas.Forcing.{World, values, shown}
 use Rattle.formula_answers.specs.MapTables.{ends_of, table_at}
 use Rattle.formula_answers.specs.Formulas.{world_of}
 use Rattle.topos_model.specs.statements.Declarations.{Declared, DeclaredMap, category_of, site_of, map_ends, world_under, functor_at, ends_at, domain_at, codomain_at, components_at}
-use Rattle.topos_model.specs.statements.Answers.{tuple_of, type_found, values_of, unforced, classified, sheaf_answer, shape_of, map_shape, map_under, functor_map, Makes, Answers}
+use Rattle.topos_model.specs.statements.Answers.{tuple_of, type_found, values_of, satisfying, numbers_with, with_numbers, unforced, classified, sheaf_answer, shape_of, map_shape, map_under, functor_map, Makes, Answers}
 use Rattle.topos_model.specs.statements.Refusals.{foreign_refusal, term_refusal, ends_fit, refusal, late_refusal, IsRefusal}
 use Rattle.topos_session.specs.Ranges.{is_in_range}
 use Rattle.topos_session.specs.Built.{is_built}
@@ -47,10 +47,11 @@ use Rattle.topos_session.specs.declared.declarations.Declarations.{Declarations}
 use Rattle.topos_session.specs.Declarations.{declared_between, declared_map, with_counted, AreLawful}
 use Rattle.topos_session.specs.Declarations as session
 use Rattle.topos_session.specs.Constructions.{is_construction, between, between_functors, from, to, table, fit}
+use Rattle.topos_session.specs.Elements.{type_elements, type_maps, part_elements, part_maps, MakesElements}
 use Rattle.topos_session.specs.Statements.{AnswersOver, Builds, Defines, refusal_in_turn, refusal_over}
 use Rattle.topos_session.proofs.MadeFunctors.{named_is, first_of_three, maps_declared, equalizer_range, coequalizer_range, pullback_range, pushout_range, image_range}
 use Rattle.topos_session.proofs.LawfulDeclarations.{natural_between, declared_later}
-use Rattle.topos_session.proofs.DeclaredMaps.{ends_are, domain_is, codomain_is, table_is, no_sheaf_asked, show_refusal, classify_refusal, valid_refusal, let_refusal, ends_known, world_is}
+use Rattle.topos_session.proofs.DeclaredMaps.{ends_are, domain_is, codomain_is, table_is, no_sheaf_asked, build_refusal, sub_refusal, let_refusal, show_refusal, classify_refusal, valid_refusal, ends_known, world_is}
 
 -- tests that are the same where others pass
 both_same : (a b c d p q r s : Bool) → (a ≡ true → c ≡ true → p ≡ q) → (b ≡ true → d ≡ true → r ≡ s) → (a && b && (c && d) && p && r) ≡ (a && b && (c && d) && (q && s))
@@ -167,6 +168,8 @@ module _ (doc : Doc) (so : Declarations) (site : so.world.site ≡ site_of doc 0
   refusal_is (Show under ctx φ) range built = show_refusal doc so types site under (eqb-true under 0 built) ctx φ
   refusal_is (Classify under ctx φ) range built = classify_refusal doc so types site under (eqb-true under 0 built) ctx φ
   refusal_is (Valid under ctx φ) range built = valid_refusal doc so types site under (eqb-true under 0 built) ctx φ
+  refusal_is (Build under z T u v) range built = build_refusal doc so types site under (eqb-true under 0 built) z T u v
+  refusal_is (Sub under z T φ i) range built = sub_refusal doc so types site under (eqb-true under 0 built) z T φ i
   refusal_is (Let under m T t) range built = let_refusal doc so types site under (eqb-true under 0 built) m T t
   refusal_is _ range built = cc
 
@@ -188,6 +191,8 @@ module _ (doc : Doc) (so : Declarations) (site : so.world.site ≡ site_of doc 0
   as_refusal (Show under ctx φ) o built e = sym e
   as_refusal (Classify under ctx φ) o built e = sym e
   as_refusal (Valid under ctx φ) o built e = sym e
+  as_refusal (Build under z T u v) o built e = sym e
+  as_refusal (Sub under z T φ i) o built e = sym e
   as_refusal (Let under m T t) o built e = sym e
   as_refusal _ o built e = cc
 
@@ -208,6 +213,8 @@ module _ (doc : Doc) (so : Declarations) (site : so.world.site ≡ site_of doc 0
   no_late_refusal (Show under ctx φ) types built = refl
   no_late_refusal (Classify under ctx φ) types built = refl
   no_late_refusal (Valid under ctx φ) types built = refl
+  no_late_refusal (Build under z T u v) types built = refl
+  no_late_refusal (Sub under z T φ i) types built = refl
   no_late_refusal (Let under m T t) types built = refl
   no_late_refusal _ types built = cc
 
@@ -237,6 +244,8 @@ module _ (doc : Doc) (so : Declarations) (site : so.world.site ≡ site_of doc 0
   built_of (Show under ctx φ) accepted = built_if _ _ accepted
   built_of (Classify under ctx φ) accepted = built_if _ _ accepted
   built_of (Valid under ctx φ) accepted = built_if _ _ accepted
+  built_of (Build under z T u v) accepted = built_if _ _ accepted
+  built_of (Sub under z T φ i) accepted = built_if _ _ accepted
   built_of (Let under m T t) accepted = built_if _ _ accepted
   built_of _ accepted = cc
 
@@ -257,6 +266,8 @@ module _ (doc : Doc) (so : Declarations) (site : so.world.site ≡ site_of doc 0
   not_built_of (Show under ctx φ) out = rw out refl
   not_built_of (Classify under ctx φ) out = rw out refl
   not_built_of (Valid under ctx φ) out = rw out refl
+  not_built_of (Build under z T u v) out = rw out refl
+  not_built_of (Sub under z T φ i) out = rw out refl
   not_built_of (Let under m T t) out = rw out refl
   not_built_of _ out = refl
 
@@ -351,6 +362,27 @@ module _ (doc : Doc) (so : Declarations) (site : so.world.site ≡ site_of doc 0
       over.0 ∙ ap (λ (w : World). Verdict ctx (map (λ c. map tuple_of (unforced w (reverse ctx.types) φ c)) (objects_of k))) (world_is doc so types site under (eqb-true under 0 built)),
       ap (λ (so : Declarations). with_counted so types) over.1,
     )
+
+    -- elements by their numbers
+    elements_made : (Z : Functor) (maps : List DeclaredMap) → MakesElements k so Z maps answer after → Makes doc d Z maps answer next
+    unfolding category_of
+    elements_made Z maps m = (m.shown, ap (λ (so : Declarations). with_counted so types) m.declared ∙ behind_functor Z m.tables maps m.maps)
+
+    build_answers : (under z : ℕ) (T : Ty) (u v : ℕ) → is_built (Build under z T u v) ≡ true → AnswersOver k so (Build under z T u v) answer after → Answers doc d (Build under z T u v) answer next
+    unfolding category_of is_built world_under site_of
+    build_answers under z T u v built over =
+        let w = world_under doc d under in
+        let first : 0 ≡ under = sym (eqb-true under 0 built) in
+        subst (λ j. Makes doc d (type_elements w T) (map_under j (Base z) T (map (λ c. numbers_with (values w T c)) (objects_of k)) ∷ map_under j T (Base z) (map (λ c. with_numbers (values w T c)) (objects_of k)) ∷ []) answer next) first
+        (subst (λ (w : World). Makes doc d (type_elements w T) (type_maps w z T) answer next) (world_is doc so types site under (eqb-true under 0 built)) (elements_made _ _ over))
+
+    sub_answers : (under z : ℕ) (T : Ty) (φ : Term) (i : ℕ) → is_built (Sub under z T φ i) ≡ true → AnswersOver k so (Sub under z T φ i) answer after → Answers doc d (Sub under z T φ i) answer next
+    unfolding category_of is_built world_under site_of
+    sub_answers under z T φ i built over =
+        let w = world_under doc d under in
+        let first : 0 ≡ under = sym (eqb-true under 0 built) in
+        subst (λ j. Makes doc d (part_elements w T φ) (map_under j (Base z) T (map (λ c. numbers_with (satisfying w T φ c)) (objects_of k)) ∷ []) answer next) first
+        (subst (λ (w : World). Makes doc d (part_elements w T φ) (part_maps w z T φ) answer next) (world_is doc so types site under (eqb-true under 0 built)) (elements_made _ _ over))
 
     let_answers : (under m : ℕ) (T : Ty) (t : Term) → is_built (Let under m T t) ≡ true → AnswersOver k so (Let under m T t) answer after → Answers doc d (Let under m T t) answer next
     unfolding category_of is_built world_under filled_category site_of
@@ -494,6 +526,8 @@ module _ (doc : Doc) (so : Declarations) (site : so.world.site ≡ site_of doc 0
     answers_are (Show under ctx φ) range built accepted over = show_answers under ctx φ built over
     answers_are (Classify under ctx φ) range built accepted over = classify_answers under ctx φ built over
     answers_are (Valid under ctx φ) range built accepted over = valid_answers under ctx φ built over
+    answers_are (Build under z T u v) range built accepted over = build_answers under z T u v built over
+    answers_are (Sub under z T φ i) range built accepted over = sub_answers under z T φ i built over
     answers_are (Let under m T t) range built accepted over = let_answers under m T t built over
     answers_are (Product x y z p q) range built accepted b = product_answers x y z p q range b
     answers_are (Coproduct x y z p q) range built accepted b = coproduct_answers x y z p q range b
@@ -529,6 +563,8 @@ unfolding is_built under
 built_under (Show j ctx φ) built = eqb-true j 0 built
 built_under (Classify j ctx φ) built = eqb-true j 0 built
 built_under (Valid j ctx φ) built = eqb-true j 0 built
+built_under (Build j z T u v) built = eqb-true j 0 built
+built_under (Sub j z T φ i) built = eqb-true j 0 built
 built_under (Let j m T t) built = eqb-true j 0 built
 built_under (Presheaf functor raw) built = refl
 built_under (Map m x y raw) built = refl

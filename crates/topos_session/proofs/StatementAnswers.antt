@@ -6,7 +6,7 @@ use Rattle.topos_model.specs.declared.ty.Ty.{Ty}
 use Rattle.topos_model.specs.declared.context.Ctx.{Ctx}
 use Rattle.topos_model.specs.declared.term.Term.{Term}
 use Rattle.topos_model.specs.declared.stmt.Stmt.{Stmt}
-use Rattle.topos_model.specs.declared.stmt.Stmt.TheVariants.{Presheaf, Map, Product, Coproduct, Equalizer, Coequalizer, Pullback, Pushout, Image, Empty, Sheaf, Hom, Show, Classify, Valid, Let}
+use Rattle.topos_model.specs.declared.stmt.Stmt.TheVariants.{Presheaf, Map, Product, Coproduct, Equalizer, Coequalizer, Pullback, Pushout, Image, Empty, Sheaf, Hom, Build, Sub, Let, Show, Classify, Valid}
 use Rattle.topos_model.specs.declared.answer.Answer.{Answer}
 use Rattle.topos_model.specs.declared.answer.Answer.TheVariants.{Quiet, Maps}
 use Rattle.topos_model.specs.declared.answer.Answer.TheVariants as answer
@@ -205,22 +205,26 @@ module _ (k : Category) (so : Declarations) where
       → ((under : ℕ) (ctx : Ctx) (φ : Term) → stmt ≡ Classify under ctx φ → ⊥)
       → ((under : ℕ) (ctx : Ctx) (φ : Term) → stmt ≡ Valid under ctx φ → ⊥)
       → ((under m : ℕ) (T : Ty) (t : Term) → stmt ≡ Let under m T t → ⊥)
+      → ((under z : ℕ) (T : Ty) (u v : ℕ) → stmt ≡ Build under z T u v → ⊥)
+      → ((under z : ℕ) (T : Ty) (φ : Term) (i : ℕ) → stmt ≡ Sub under z T φ i → ⊥)
       → refusal_over k so stmt ≡ Some NotBuilt
   unfolding is_construction
-  refused_other (Presheaf functor raw) h _ _ _ _ _ _ _ _ _ _ _ _ _ _ _ = absurd (h functor raw refl)
-  refused_other (Map m x y raw) _ h _ _ _ _ _ _ _ _ _ _ _ _ _ _ = absurd (h m x y raw refl)
-  refused_other (Product x y z p q) _ _ h _ _ _ _ _ _ _ _ _ _ _ _ _ = absurd (h x y z p q refl)
-  refused_other (Coproduct x y z p q) _ _ _ h _ _ _ _ _ _ _ _ _ _ _ _ = absurd (h x y z p q refl)
-  refused_other (Equalizer m n z i) _ _ _ _ h _ _ _ _ _ _ _ _ _ _ _ = absurd (h m n z i refl)
-  refused_other (Coequalizer m n z q) _ _ _ _ _ h _ _ _ _ _ _ _ _ _ _ = absurd (h m n z q refl)
-  refused_other (Pullback m n z p q) _ _ _ _ _ _ h _ _ _ _ _ _ _ _ _ = absurd (h m n z p q refl)
-  refused_other (Pushout m n z i j) _ _ _ _ _ _ _ h _ _ _ _ _ _ _ _ = absurd (h m n z i j refl)
-  refused_other (Image m z e j) _ _ _ _ _ _ _ _ h _ _ _ _ _ _ _ = absurd (h m z e j refl)
-  refused_other (Empty z) _ _ _ _ _ _ _ _ _ h _ _ _ _ _ _ = absurd (h z refl)
-  refused_other (Sheaf under x) _ _ _ _ _ _ _ _ _ _ h _ _ _ _ _ = absurd (h under x refl)
-  refused_other (Hom x y) _ _ _ _ _ _ _ _ _ _ _ h _ _ _ _ = absurd (h x y refl)
-  refused_other (Show under ctx φ) _ _ _ _ _ _ _ _ _ _ _ _ h _ _ _ = absurd (h under ctx φ refl)
-  refused_other (Classify under ctx φ) _ _ _ _ _ _ _ _ _ _ _ _ _ h _ _ = absurd (h under ctx φ refl)
-  refused_other (Valid under ctx φ) _ _ _ _ _ _ _ _ _ _ _ _ _ _ h _ = absurd (h under ctx φ refl)
-  refused_other (Let under m T t) _ _ _ _ _ _ _ _ _ _ _ _ _ _ _ h = absurd (h under m T t refl)
-  refused_other _ _ _ _ _ _ _ _ _ _ _ _ _ _ _ _ _ = refl
+  refused_other (Presheaf functor raw) h _ _ _ _ _ _ _ _ _ _ _ _ _ _ _ _ _ = absurd (h functor raw refl)
+  refused_other (Map m x y raw) _ h _ _ _ _ _ _ _ _ _ _ _ _ _ _ _ _ = absurd (h m x y raw refl)
+  refused_other (Product x y z p q) _ _ h _ _ _ _ _ _ _ _ _ _ _ _ _ _ _ = absurd (h x y z p q refl)
+  refused_other (Coproduct x y z p q) _ _ _ h _ _ _ _ _ _ _ _ _ _ _ _ _ _ = absurd (h x y z p q refl)
+  refused_other (Equalizer m n z i) _ _ _ _ h _ _ _ _ _ _ _ _ _ _ _ _ _ = absurd (h m n z i refl)
+  refused_other (Coequalizer m n z q) _ _ _ _ _ h _ _ _ _ _ _ _ _ _ _ _ _ = absurd (h m n z q refl)
+  refused_other (Pullback m n z p q) _ _ _ _ _ _ h _ _ _ _ _ _ _ _ _ _ _ = absurd (h m n z p q refl)
+  refused_other (Pushout m n z i j) _ _ _ _ _ _ _ h _ _ _ _ _ _ _ _ _ _ = absurd (h m n z i j refl)
+  refused_other (Image m z e j) _ _ _ _ _ _ _ _ h _ _ _ _ _ _ _ _ _ = absurd (h m z e j refl)
+  refused_other (Empty z) _ _ _ _ _ _ _ _ _ h _ _ _ _ _ _ _ _ = absurd (h z refl)
+  refused_other (Sheaf under x) _ _ _ _ _ _ _ _ _ _ h _ _ _ _ _ _ _ = absurd (h under x refl)
+  refused_other (Hom x y) _ _ _ _ _ _ _ _ _ _ _ h _ _ _ _ _ _ = absurd (h x y refl)
+  refused_other (Show under ctx φ) _ _ _ _ _ _ _ _ _ _ _ _ h _ _ _ _ _ = absurd (h under ctx φ refl)
+  refused_other (Classify under ctx φ) _ _ _ _ _ _ _ _ _ _ _ _ _ h _ _ _ _ = absurd (h under ctx φ refl)
+  refused_other (Valid under ctx φ) _ _ _ _ _ _ _ _ _ _ _ _ _ _ h _ _ _ = absurd (h under ctx φ refl)
+  refused_other (Let under m T t) _ _ _ _ _ _ _ _ _ _ _ _ _ _ _ h _ _ = absurd (h under m T t refl)
+  refused_other (Build under z T u v) _ _ _ _ _ _ _ _ _ _ _ _ _ _ _ _ h _ = absurd (h under z T u v refl)
+  refused_other (Sub under z T φ i) _ _ _ _ _ _ _ _ _ _ _ _ _ _ _ _ _ h = absurd (h under z T φ i refl)
+  refused_other _ _ _ _ _ _ _ _ _ _ _ _ _ _ _ _ _ _ _ = refl

@@ -7,7 +7,7 @@ use Rattle.topos_model.specs.declared.context.Ctx.{Ctx}
 use Rattle.term_ranges.specs.Ranges.{is_type_in_range, is_term_in_range}
 use Rattle.topos_model.specs.declared.term.Term.{Term}
 use Rattle.topos_model.specs.declared.stmt.Stmt.{Stmt}
-use Rattle.topos_model.specs.declared.stmt.Stmt.TheVariants.{Presheaf, Map, Product, Coproduct, Equalizer, Coequalizer, Pullback, Pushout, Image, Empty, Sheaf, Hom, Show, Classify, Valid, Let}
+use Rattle.topos_model.specs.declared.stmt.Stmt.TheVariants.{Presheaf, Map, Product, Coproduct, Equalizer, Coequalizer, Pullback, Pushout, Image, Empty, Sheaf, Hom, Build, Sub, Let, Show, Classify, Valid}
 use Rattle.topos_session.specs.Constructions.{is_construction}
 use Rattle.topos_model.specs.statements.Form.{is_presheaf_listing, is_map_listing}
 use Rattle.topos_session.specs.Ranges.{is_formula_in_range, declares, is_in_range}
@@ -79,6 +79,14 @@ pub range-Let : (objects : ℕ) (ends : List (ℕ × ℕ)) (n l : ℕ) (under m 
 unfolding is_in_range
 range-Let objects ends n l under m T t = refl
 
+pub range-Build : (objects : ℕ) (ends : List (ℕ × ℕ)) (n l : ℕ) (under z : ℕ) (T : Ty) (u v : ℕ) → is_in_range objects ends n l (Build under z T u v) ≡ (eqb z n && is_type_in_range n T)
+unfolding is_in_range
+range-Build objects ends n l under z T u v = refl
+
+pub range-Sub : (objects : ℕ) (ends : List (ℕ × ℕ)) (n l : ℕ) (under z : ℕ) (T : Ty) (φ : Term) (i : ℕ) → is_in_range objects ends n l (Sub under z T φ i) ≡ (eqb z n && is_type_in_range n T && is_term_in_range n l φ)
+unfolding is_in_range
+range-Sub objects ends n l under z T φ i = refl
+
 pub range-other : (objects : ℕ) (ends : List (ℕ × ℕ)) (n l : ℕ) (stmt : Stmt)
     → ((functor : ℕ) (raw : RawFunctor) → stmt ≡ Presheaf functor raw → ⊥)
     → ((m x y : ℕ) (raw : RawMap) → stmt ≡ Map m x y raw → ⊥)
@@ -95,26 +103,30 @@ pub range-other : (objects : ℕ) (ends : List (ℕ × ℕ)) (n l : ℕ) (stmt :
     → ((under : ℕ) (ctx : Ctx) (φ : Term) → stmt ≡ Classify under ctx φ → ⊥)
     → ((under : ℕ) (ctx : Ctx) (φ : Term) → stmt ≡ Valid under ctx φ → ⊥)
     → ((under m : ℕ) (T : Ty) (t : Term) → stmt ≡ Let under m T t → ⊥)
+    → ((under z : ℕ) (T : Ty) (u v : ℕ) → stmt ≡ Build under z T u v → ⊥)
+    → ((under z : ℕ) (T : Ty) (φ : Term) (i : ℕ) → stmt ≡ Sub under z T φ i → ⊥)
     → is_in_range objects ends n l stmt ≡ true
 unfolding is_in_range
-range-other objects ends n l (Presheaf functor raw) h _ _ _ _ _ _ _ _ _ _ _ _ _ _ = absurd (h functor raw refl)
-range-other objects ends n l (Map m x y raw) _ h _ _ _ _ _ _ _ _ _ _ _ _ _ = absurd (h m x y raw refl)
-range-other objects ends n l (Product x y z p q) _ _ h _ _ _ _ _ _ _ _ _ _ _ _ = absurd (h x y z p q refl)
-range-other objects ends n l (Coproduct x y z p q) _ _ _ h _ _ _ _ _ _ _ _ _ _ _ = absurd (h x y z p q refl)
-range-other objects ends n l (Equalizer m m' z i) _ _ _ _ h _ _ _ _ _ _ _ _ _ _ = absurd (h m m' z i refl)
-range-other objects ends n l (Coequalizer m m' z q) _ _ _ _ _ h _ _ _ _ _ _ _ _ _ = absurd (h m m' z q refl)
-range-other objects ends n l (Pullback m m' z p q) _ _ _ _ _ _ h _ _ _ _ _ _ _ _ = absurd (h m m' z p q refl)
-range-other objects ends n l (Pushout m m' z i j) _ _ _ _ _ _ _ h _ _ _ _ _ _ _ = absurd (h m m' z i j refl)
-range-other objects ends n l (Image m z e j) _ _ _ _ _ _ _ _ h _ _ _ _ _ _ = absurd (h m z e j refl)
-range-other objects ends n l (Sheaf under x) _ _ _ _ _ _ _ _ _ h _ _ _ _ _ = absurd (h under x refl)
-range-other objects ends n l (Hom x y) _ _ _ _ _ _ _ _ _ _ h _ _ _ _ = absurd (h x y refl)
-range-other objects ends n l (Show under ctx φ) _ _ _ _ _ _ _ _ _ _ _ h _ _ _ = absurd (h under ctx φ refl)
-range-other objects ends n l (Classify under ctx φ) _ _ _ _ _ _ _ _ _ _ _ _ h _ _ = absurd (h under ctx φ refl)
-range-other objects ends n l (Valid under ctx φ) _ _ _ _ _ _ _ _ _ _ _ _ _ h _ = absurd (h under ctx φ refl)
-range-other objects ends n l (Let under m T t) _ _ _ _ _ _ _ _ _ _ _ _ _ _ h = absurd (h under m T t refl)
-range-other objects ends n l _ _ _ _ _ _ _ _ _ _ _ _ _ _ _ _ = refl
+range-other objects ends n l (Presheaf functor raw) h _ _ _ _ _ _ _ _ _ _ _ _ _ _ _ _ = absurd (h functor raw refl)
+range-other objects ends n l (Map m x y raw) _ h _ _ _ _ _ _ _ _ _ _ _ _ _ _ _ = absurd (h m x y raw refl)
+range-other objects ends n l (Product x y z p q) _ _ h _ _ _ _ _ _ _ _ _ _ _ _ _ _ = absurd (h x y z p q refl)
+range-other objects ends n l (Coproduct x y z p q) _ _ _ h _ _ _ _ _ _ _ _ _ _ _ _ _ = absurd (h x y z p q refl)
+range-other objects ends n l (Equalizer m m' z i) _ _ _ _ h _ _ _ _ _ _ _ _ _ _ _ _ = absurd (h m m' z i refl)
+range-other objects ends n l (Coequalizer m m' z q) _ _ _ _ _ h _ _ _ _ _ _ _ _ _ _ _ = absurd (h m m' z q refl)
+range-other objects ends n l (Pullback m m' z p q) _ _ _ _ _ _ h _ _ _ _ _ _ _ _ _ _ = absurd (h m m' z p q refl)
+range-other objects ends n l (Pushout m m' z i j) _ _ _ _ _ _ _ h _ _ _ _ _ _ _ _ _ = absurd (h m m' z i j refl)
+range-other objects ends n l (Image m z e j) _ _ _ _ _ _ _ _ h _ _ _ _ _ _ _ _ = absurd (h m z e j refl)
+range-other objects ends n l (Sheaf under x) _ _ _ _ _ _ _ _ _ h _ _ _ _ _ _ _ = absurd (h under x refl)
+range-other objects ends n l (Hom x y) _ _ _ _ _ _ _ _ _ _ h _ _ _ _ _ _ = absurd (h x y refl)
+range-other objects ends n l (Show under ctx φ) _ _ _ _ _ _ _ _ _ _ _ h _ _ _ _ _ = absurd (h under ctx φ refl)
+range-other objects ends n l (Classify under ctx φ) _ _ _ _ _ _ _ _ _ _ _ _ h _ _ _ _ = absurd (h under ctx φ refl)
+range-other objects ends n l (Valid under ctx φ) _ _ _ _ _ _ _ _ _ _ _ _ _ h _ _ _ = absurd (h under ctx φ refl)
+range-other objects ends n l (Let under m T t) _ _ _ _ _ _ _ _ _ _ _ _ _ _ h _ _ = absurd (h under m T t refl)
+range-other objects ends n l (Build under z T u v) _ _ _ _ _ _ _ _ _ _ _ _ _ _ _ h _ = absurd (h under z T u v refl)
+range-other objects ends n l (Sub under z T φ i) _ _ _ _ _ _ _ _ _ _ _ _ _ _ _ _ h = absurd (h under z T φ i refl)
+range-other objects ends n l _ _ _ _ _ _ _ _ _ _ _ _ _ _ _ _ _ _ = refl
 
-pub ruleset range_rules = (range-Presheaf, range-Map, range-Product, range-Coproduct, range-Equalizer, range-Coequalizer, range-Pullback, range-Pushout, range-Image, range-Sheaf, range-Hom, range-Show, range-Classify, range-Valid, range-Let)
+pub ruleset range_rules = (range-Presheaf, range-Map, range-Product, range-Coproduct, range-Equalizer, range-Coequalizer, range-Pullback, range-Pushout, range-Image, range-Sheaf, range-Hom, range-Show, range-Classify, range-Valid, range-Let, range-Build, range-Sub)
 
 pub declares-Presheaf : (functor : ℕ) (raw : RawFunctor) → declares (Presheaf functor raw) ≡ Some (1, 0)
 unfolding declares
@@ -180,6 +192,14 @@ pub declares-Let : (under m : ℕ) (T : Ty) (t : Term) → declares (Let under m
 unfolding declares
 declares-Let under m T t = refl
 
+pub declares-Build : (under z : ℕ) (T : Ty) (u v : ℕ) → declares (Build under z T u v) ≡ Some (1, 2)
+unfolding declares
+declares-Build under z T u v = refl
+
+pub declares-Sub : (under z : ℕ) (T : Ty) (φ : Term) (i : ℕ) → declares (Sub under z T φ i) ≡ Some (1, 1)
+unfolding declares
+declares-Sub under z T φ i = refl
+
 pub declares-other : (stmt : Stmt)
     → ((functor : ℕ) (raw : RawFunctor) → stmt ≡ Presheaf functor raw → ⊥)
     → ((m x y : ℕ) (raw : RawMap) → stmt ≡ Map m x y raw → ⊥)
@@ -197,27 +217,31 @@ pub declares-other : (stmt : Stmt)
     → ((under : ℕ) (ctx : Ctx) (φ : Term) → stmt ≡ Classify under ctx φ → ⊥)
     → ((under : ℕ) (ctx : Ctx) (φ : Term) → stmt ≡ Valid under ctx φ → ⊥)
     → ((under m : ℕ) (T : Ty) (t : Term) → stmt ≡ Let under m T t → ⊥)
+    → ((under z : ℕ) (T : Ty) (u v : ℕ) → stmt ≡ Build under z T u v → ⊥)
+    → ((under z : ℕ) (T : Ty) (φ : Term) (i : ℕ) → stmt ≡ Sub under z T φ i → ⊥)
     → declares stmt ≡ None
 unfolding declares
-declares-other (Presheaf functor raw) h _ _ _ _ _ _ _ _ _ _ _ _ _ _ _ = absurd (h functor raw refl)
-declares-other (Map m x y raw) _ h _ _ _ _ _ _ _ _ _ _ _ _ _ _ = absurd (h m x y raw refl)
-declares-other (Product x y z p q) _ _ h _ _ _ _ _ _ _ _ _ _ _ _ _ = absurd (h x y z p q refl)
-declares-other (Coproduct x y z p q) _ _ _ h _ _ _ _ _ _ _ _ _ _ _ _ = absurd (h x y z p q refl)
-declares-other (Equalizer m m' z i) _ _ _ _ h _ _ _ _ _ _ _ _ _ _ _ = absurd (h m m' z i refl)
-declares-other (Coequalizer m m' z q) _ _ _ _ _ h _ _ _ _ _ _ _ _ _ _ = absurd (h m m' z q refl)
-declares-other (Pullback m m' z p q) _ _ _ _ _ _ h _ _ _ _ _ _ _ _ _ = absurd (h m m' z p q refl)
-declares-other (Pushout m m' z i j) _ _ _ _ _ _ _ h _ _ _ _ _ _ _ _ = absurd (h m m' z i j refl)
-declares-other (Image m z e j) _ _ _ _ _ _ _ _ h _ _ _ _ _ _ _ = absurd (h m z e j refl)
-declares-other (Empty z) _ _ _ _ _ _ _ _ _ h _ _ _ _ _ _ = absurd (h z refl)
-declares-other (Sheaf under x) _ _ _ _ _ _ _ _ _ _ h _ _ _ _ _ = absurd (h under x refl)
-declares-other (Hom x y) _ _ _ _ _ _ _ _ _ _ _ h _ _ _ _ = absurd (h x y refl)
-declares-other (Show under ctx φ) _ _ _ _ _ _ _ _ _ _ _ _ h _ _ _ = absurd (h under ctx φ refl)
-declares-other (Classify under ctx φ) _ _ _ _ _ _ _ _ _ _ _ _ _ h _ _ = absurd (h under ctx φ refl)
-declares-other (Valid under ctx φ) _ _ _ _ _ _ _ _ _ _ _ _ _ _ h _ = absurd (h under ctx φ refl)
-declares-other (Let under m T t) _ _ _ _ _ _ _ _ _ _ _ _ _ _ _ h = absurd (h under m T t refl)
-declares-other _ _ _ _ _ _ _ _ _ _ _ _ _ _ _ _ _ = refl
+declares-other (Presheaf functor raw) h _ _ _ _ _ _ _ _ _ _ _ _ _ _ _ _ _ = absurd (h functor raw refl)
+declares-other (Map m x y raw) _ h _ _ _ _ _ _ _ _ _ _ _ _ _ _ _ _ = absurd (h m x y raw refl)
+declares-other (Product x y z p q) _ _ h _ _ _ _ _ _ _ _ _ _ _ _ _ _ _ = absurd (h x y z p q refl)
+declares-other (Coproduct x y z p q) _ _ _ h _ _ _ _ _ _ _ _ _ _ _ _ _ _ = absurd (h x y z p q refl)
+declares-other (Equalizer m m' z i) _ _ _ _ h _ _ _ _ _ _ _ _ _ _ _ _ _ = absurd (h m m' z i refl)
+declares-other (Coequalizer m m' z q) _ _ _ _ _ h _ _ _ _ _ _ _ _ _ _ _ _ = absurd (h m m' z q refl)
+declares-other (Pullback m m' z p q) _ _ _ _ _ _ h _ _ _ _ _ _ _ _ _ _ _ = absurd (h m m' z p q refl)
+declares-other (Pushout m m' z i j) _ _ _ _ _ _ _ h _ _ _ _ _ _ _ _ _ _ = absurd (h m m' z i j refl)
+declares-other (Image m z e j) _ _ _ _ _ _ _ _ h _ _ _ _ _ _ _ _ _ = absurd (h m z e j refl)
+declares-other (Empty z) _ _ _ _ _ _ _ _ _ h _ _ _ _ _ _ _ _ = absurd (h z refl)
+declares-other (Sheaf under x) _ _ _ _ _ _ _ _ _ _ h _ _ _ _ _ _ _ = absurd (h under x refl)
+declares-other (Hom x y) _ _ _ _ _ _ _ _ _ _ _ h _ _ _ _ _ _ = absurd (h x y refl)
+declares-other (Show under ctx φ) _ _ _ _ _ _ _ _ _ _ _ _ h _ _ _ _ _ = absurd (h under ctx φ refl)
+declares-other (Classify under ctx φ) _ _ _ _ _ _ _ _ _ _ _ _ _ h _ _ _ _ = absurd (h under ctx φ refl)
+declares-other (Valid under ctx φ) _ _ _ _ _ _ _ _ _ _ _ _ _ _ h _ _ _ = absurd (h under ctx φ refl)
+declares-other (Let under m T t) _ _ _ _ _ _ _ _ _ _ _ _ _ _ _ h _ _ = absurd (h under m T t refl)
+declares-other (Build under z T u v) _ _ _ _ _ _ _ _ _ _ _ _ _ _ _ _ h _ = absurd (h under z T u v refl)
+declares-other (Sub under z T φ i) _ _ _ _ _ _ _ _ _ _ _ _ _ _ _ _ _ h = absurd (h under z T φ i refl)
+declares-other _ _ _ _ _ _ _ _ _ _ _ _ _ _ _ _ _ _ _ = refl
 
-pub ruleset declared_rules = (declares-Presheaf, declares-Map, declares-Product, declares-Coproduct, declares-Equalizer, declares-Coequalizer, declares-Pullback, declares-Pushout, declares-Image, declares-Empty, declares-Sheaf, declares-Hom, declares-Show, declares-Classify, declares-Valid, declares-Let)
+pub ruleset declared_rules = (declares-Presheaf, declares-Map, declares-Product, declares-Coproduct, declares-Equalizer, declares-Coequalizer, declares-Pullback, declares-Pushout, declares-Image, declares-Empty, declares-Sheaf, declares-Hom, declares-Show, declares-Classify, declares-Valid, declares-Let, declares-Build, declares-Sub)
 
 pub construction-Product : (x y z p q : ℕ) → is_construction (Product x y z p q) ≡ true
 unfolding is_construction
@@ -294,4 +318,6 @@ declares_few (Show under ctx φ) a b e = at_most 0 a (ap first e) (omega arith)
 declares_few (Classify under ctx φ) a b e = at_most 0 a (ap first e) (omega arith)
 declares_few (Valid under ctx φ) a b e = at_most 0 a (ap first e) (omega arith)
 declares_few (Let under m T t) a b e = at_most 0 a (ap first e) (omega arith)
+declares_few (Build under z T u v) a b e = at_most 1 a (ap first e) (omega arith)
+declares_few (Sub under z T φ i) a b e = at_most 1 a (ap first e) (omega arith)
 declares_few _ a b e = cc

@@ -12,14 +12,14 @@ use Rattle.topos_model.specs.declared.context.Ctx.{Ctx}
 use Rattle.term_ranges.specs.Ranges.{is_type_in_range, is_term_in_range}
 use Rattle.topos_model.specs.declared.term.Term.{Term}
 use Rattle.topos_model.specs.declared.stmt.Stmt.{Stmt}
-use Rattle.topos_model.specs.declared.stmt.Stmt.TheVariants.{Presheaf, Map, Sheaf, Hom, Show, Classify, Valid, Let}
+use Rattle.topos_model.specs.declared.stmt.Stmt.TheVariants.{Presheaf, Map, Sheaf, Hom, Build, Sub, Let, Show, Classify, Valid}
 use Rattle.topos_model.specs.categories.Category.{Category, dom, cod}
 use Rattle.topos_model.specs.presheaves.PresheafFaults.{IsPresheafListing}
 use Rattle.topos_model.specs.presheaves.MapFaults.{has_image, IsMapListing}
 use Rattle.topos_model.specs.statements.Form.{along_fits, is_presheaf_listing, is_map_listing}
 use Rattle.topos_session.specs.Ranges.{is_formula_in_range, is_in_range}
 use Rattle.topos_session.proofs.DistinctNumbers.{distinct_numbers}
-use Rattle.topos_session.proofs.StatementForms.{range-Presheaf, range-Map, range-Sheaf, range-Hom, range-Show, range-Classify, range-Valid, range-Let}
+use Rattle.topos_session.proofs.StatementForms.{range-Presheaf, range-Map, range-Sheaf, range-Hom, range-Show, range-Classify, range-Valid, range-Let, range-Build, range-Sub}
 
 -- a listed presheaf has sizes for all objects, and restrictions of elements to elements
 along_in_range : (k : Category) (raw : RawFunctor) (a : RawAlong) → along_fits k.objects k.ends raw.sizes a ≡ true →
@@ -110,3 +110,19 @@ judged_range objects ends n l stmt under ctx φ is range = sym (range-Valid obje
 
 pub defined_range : (objects : ℕ) (ends : List (ℕ × ℕ)) (n l : ℕ) (stmt : Stmt) (under m : ℕ) (T : Ty) (t : Term) → stmt ≡ Let under m T t → is_in_range objects ends n l stmt ≡ true → (is_type_in_range n T ≡ true) × (is_term_in_range n l t ≡ true)
 defined_range objects ends n l stmt under m T t is range = and_parts _ _ (sym (range-Let objects ends n l under m T t) ∙ ap (is_in_range objects ends n l) (sym is) ∙ range)
+
+pub built_range : (objects : ℕ) (ends : List (ℕ × ℕ)) (n l : ℕ) (stmt : Stmt) (under z : ℕ) (T : Ty) (u v : ℕ) → stmt ≡ Build under z T u v → is_in_range objects ends n l stmt ≡ true → (z ≡ n) × (is_type_in_range n T ≡ true)
+built_range objects ends n l stmt under z T u v is range =
+    let (last, type) = and_parts _ _ (sym (range-Build objects ends n l under z T u v) ∙ ap (is_in_range objects ends n l) (sym is) ∙ range) in (eqb-true z n last, type)
+
+-- what is in range where elements that satisfy a formula are declared
+pub record HasPartRange (n l z : ℕ) (T : Ty) (φ : Term) : Type 0 where
+  pub next : z ≡ n
+  pub type : is_type_in_range n T ≡ true
+  pub formula : is_term_in_range n l φ ≡ true
+
+pub part_range : (objects : ℕ) (ends : List (ℕ × ℕ)) (n l : ℕ) (stmt : Stmt) (under z : ℕ) (T : Ty) (φ : Term) (i : ℕ) → stmt ≡ Sub under z T φ i → is_in_range objects ends n l stmt ≡ true → HasPartRange n l z T φ
+part_range objects ends n l stmt under z T φ i is range =
+    let (most, formula) = and_parts _ _ (sym (range-Sub objects ends n l under z T φ i) ∙ ap (is_in_range objects ends n l) (sym is) ∙ range) in
+    let (last, type) = and_parts _ _ most in
+    record { next = eqb-true z n last; type = type; formula = formula }

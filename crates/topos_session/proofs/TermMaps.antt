@@ -30,7 +30,8 @@ use Rattle.topos_session.proofs.FormulaStatements.{names_declared}
 use Rattle.topos_session.proofs.FormulaAnswers.{fault_refuses}
 use Rattle.finite_lists.specs.Members.{In}
 use Rattle.term_ranges.specs.Ranges.{is_type_in_range, is_term_in_range}
-use Rattle.topos_session.proofs.LawfulDeclarations.{lawful_map, lawful_sealed}
+use Rattle.topos_session.proofs.LawfulDeclarations.{lawful_map}
+use Rattle.topos_session.proofs.SealedNeeds.{needs_stopped, lawful_then, answered}
 
 module _ (tables : List MapTable) (T : Ty) (t : Term) where
   -- its fault of types
@@ -70,32 +71,11 @@ needs-Let tables under m T t = append-nil (map_needs tables T t)
 
 module _ (k : Category) (so : Declarations) (under m : ℕ) (T : Ty) (t : Term) where
   pub map_stopped : (s : Stop) → IsMapStop under T t so s → IsStoppedOver k so (Let under m T t) s
-  map_stopped (stop.Refused fault) h = h
-  map_stopped stop.Budget h = by_types h.0 (subst (λ l. so.world.budget < cells_with so.world l) (sym (needs-Let so.maps under m T t)) h.1)
-  map_stopped stop.NoMemory h = tt
+  map_stopped = needs_stopped k so (Let under m T t) under (term_map_fault so.maps T t) (map_needs so.maps T t) refl (needs-Let so.maps under m T t)
 
   pub map_defined : (mid : Declarations) (table : MapTable) (h : IsMapSealed under T t so mid) → IsTermMap mid.world mid.maps T t h.codomain table → AreLawful k so → IsAnsweredOver k so (Let under m T t) Quiet (with_map mid table)
   map_defined mid table h is lawful =
       let sealed = h.sealed in
-      let site : mid.world.site ≡ so.world.site = ap (λ (w : CountedWorld). w.site) sealed.types.grown.is in
-      let functors : mid.world.functors ≡ so.world.functors = ap (λ (w : CountedWorld). w.functors) sealed.types.grown.is in
-      let longer : length (mid.maps ++ table ∷ []) ≡ length so.maps + 1 = length-append mid.maps (table ∷ []) ∙ ap (λ l. length l + 1) sealed.maps in
-      record {
-        accepted = sealed.accepted;
-        mid = mid;
-        sealed = record { maps = sealed.maps; types = subst (λ l. IsGrownBy l so.world mid.world) (sym (needs-Let so.maps under m T t)) sealed.types };
-        types_fit = subst (λ l. cells_with so.world l ≤ so.world.budget) (sym (needs-Let so.maps under m T t)) sealed.types_fit;
-        answers = (refl, record { codomain = h.codomain; typing = sealed.term.typing; table = table; map = is; declared = refl });
-        within = sealed.within;
-        lawful = lawful_map k mid (lawful_sealed k so lawful mid site functors sealed.maps) table is.lawful;
-        declared = declares-Let under m T t ∙ counts (length mid.world.functors) (length so.world.functors) (length (mid.maps ++ table ∷ [])) (length so.maps) (ap length functors) longer;
-        functors = let e = ap length functors in omega (arith, e);
-        maps = (table ∷ [], ap (λ l. l ++ table ∷ []) sealed.maps);
-        kept = (site, refl, ap (λ (w : CountedWorld). w.budget) sealed.types.grown.is);
-      }
-    where
-      counts : (a b c d : ℕ) → a ≡ b → c ≡ d + 1 → ◌≡◌ {A = Option (ℕ × ℕ)} (Some (0, 1)) (Some (a - b, c - d))
-      counts a b c d e f = same (a - b) (c - d) (omega (arith, e)) (omega (arith, f))
-        where
-          same : (x y : ℕ) → 0 ≡ x → 1 ≡ y → ◌≡◌ {A = Option (ℕ × ℕ)} (Some (0, 1)) (Some (x, y))
-          same x y p q = rw (sym p, sym q) refl
+      let then = lawful_then k so (Let under m T t) under (term_map_fault so.maps T t) (map_needs so.maps T t) refl (needs-Let so.maps under m T t) mid sealed.needs lawful in
+      answered k so (Let under m T t) under (term_map_fault so.maps T t) (map_needs so.maps T t) refl (needs-Let so.maps under m T t) mid sealed.needs Quiet (with_map mid table) 0 (table ∷ []) (declares-Let under m T t)
+      (refl, record { codomain = h.codomain; typing = sealed.term.typing; table = table; map = is; declared = refl }) (lawful_map k mid then table is.lawful) (omega arith) refl refl refl refl sealed.needs.within

@@ -1,11 +1,11 @@
 -- How much of the language this program runs.
 use Rattle.std.specs.Prelude.{Bool, true, false, eqb}
 use Rattle.topos_model.specs.declared.stmt.Stmt.{Stmt}
-use Rattle.topos_model.specs.declared.stmt.Stmt.TheVariants.{Presheaf, Map, Product, Coproduct, Equalizer, Coequalizer, Pullback, Pushout, Image, Empty, Sheaf, Hom, Show, Classify, Valid, Let}
+use Rattle.topos_model.specs.declared.stmt.Stmt.TheVariants.{Presheaf, Map, Product, Coproduct, Equalizer, Coequalizer, Pullback, Pushout, Image, Empty, Sheaf, Hom, Build, Sub, Let, Show, Classify, Valid}
 use Rattle.topos_model.specs.statements.Run.{Extent}
 use Rattle.topos_session.specs.Ranges.{is_single}
 
--- presheaves, natural maps and their lists, limits, images and colimits; tests of sheaves, formulas and maps by terms under the first topology
+-- presheaves, natural maps and their lists, limits, images and colimits; tests of sheaves, formulas, and what types and terms make, under the first topology
 unfoldable pub is_built : Stmt → Bool
 is_built (Presheaf functor raw) = true
 is_built (Map m x y raw) = true
@@ -22,6 +22,8 @@ is_built (Hom x y) = true
 is_built (Show under ctx φ) = eqb under 0
 is_built (Classify under ctx φ) = eqb under 0
 is_built (Valid under ctx φ) = eqb under 0
+is_built (Build under z T u v) = eqb under 0
+is_built (Sub under z T φ i) = eqb under 0
 is_built (Let under m T t) = eqb under 0
 is_built _ = false
 

@@ -6,6 +6,7 @@ pub mod Functors
 pub mod Declarations
 pub mod Constructions
 pub mod Homs
+pub mod Elements
 pub mod Progress
 pub mod Statements
 pub mod Steps

@@ -4,7 +4,7 @@ use Rattle.std.specs.List.{list_all}
 use Rattle.topos_model.specs.declared.context.Ctx.{Ctx}
 use Rattle.topos_model.specs.declared.term.Term.{Term}
 use Rattle.topos_model.specs.declared.stmt.Stmt.{Stmt}
-use Rattle.topos_model.specs.declared.stmt.Stmt.TheVariants.{Presheaf, Map, Product, Coproduct, Equalizer, Coequalizer, Pullback, Pushout, Image, Empty, Sheaf, Hom, Show, Classify, Valid, Let}
+use Rattle.topos_model.specs.declared.stmt.Stmt.TheVariants.{Presheaf, Map, Product, Coproduct, Equalizer, Coequalizer, Pullback, Pushout, Image, Empty, Sheaf, Hom, Build, Sub, Let, Show, Classify, Valid}
 use Rattle.topos_model.specs.declared.raw.Family.{Family}
 use Rattle.topos_model.specs.declared.doc.TopDecl.{TopDecl}
 use Rattle.topos_model.specs.declared.doc.Doc.{Doc}
@@ -29,6 +29,8 @@ declares (Hom x y) = Some (0, 0)
 declares (Show under ctx φ) = Some (0, 0)
 declares (Classify under ctx φ) = Some (0, 0)
 declares (Valid under ctx φ) = Some (0, 0)
+declares (Build under z T u v) = Some (1, 2)
+declares (Sub under z T φ i) = Some (1, 1)
 declares (Let under m T t) = Some (0, 1)
 declares _ = None
 
@@ -52,6 +54,8 @@ is_in_range objects ends n l (Hom x y) = ltb x n && ltb y n
 is_in_range objects ends n l (Show under ctx φ) = is_formula_in_range n l ctx φ
 is_in_range objects ends n l (Classify under ctx φ) = is_formula_in_range n l ctx φ
 is_in_range objects ends n l (Valid under ctx φ) = is_formula_in_range n l ctx φ
+is_in_range objects ends n l (Build under z T u v) = eqb z n && is_type_in_range n T
+is_in_range objects ends n l (Sub under z T φ i) = eqb z n && is_type_in_range n T && is_term_in_range n l φ
 is_in_range objects ends n l (Let under m T t) = is_type_in_range n T && is_term_in_range n l t
 is_in_range objects ends n l _ = true
 

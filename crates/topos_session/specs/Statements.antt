@@ -45,6 +45,7 @@ use Rattle.topos_session.specs.Ranges.{declares}
 use Rattle.topos_session.specs.Functors.{functor_at}
 use Rattle.topos_session.specs.Declarations.{declared_between, AreLawful, with_functor, with_presheaf, with_map, with_cells}
 use Rattle.topos_session.specs.Constructions.{is_construction, between, property, fit}
+use Rattle.topos_session.specs.Elements.{type_elements, type_maps, part_elements, part_maps, MakesElements}
 
 -- the stop by a fault of a listed presheaf
 abbrev pub presheaf_stop : FunctorFault → Stop
@@ -105,6 +106,10 @@ AnswersOver k so (statement.Classify under ctx φ) answer after =
     (answer ≡ Classified ctx (map (classified (world_of so.world so.maps) (reverse ctx.types) φ) (objects_of k))) × (after ≡ so)
 AnswersOver k so (statement.Valid under ctx φ) answer after =
     (answer ≡ Verdict ctx (map (λ c. map tuple_of (unforced (world_of so.world so.maps) (reverse ctx.types) φ c)) (objects_of k))) × (after ≡ so)
+AnswersOver k so (statement.Build under z T u v) answer after =
+    let w = world_of so.world so.maps in MakesElements k so (type_elements w T) (type_maps w z T) answer after
+AnswersOver k so (statement.Sub under z T φ i) answer after =
+    let w = world_of so.world so.maps in MakesElements k so (part_elements w T φ) (part_maps w z T φ) answer after
 AnswersOver k so (statement.Let under m T t) answer after = (answer ≡ Quiet) × Defines so T t after
 AnswersOver k so stmt answer after = Builds k so stmt answer after
 
@@ -116,7 +121,7 @@ no_sheaf_among w types = first_no_sheaf (λ n. is_none (sheaf_fault w.site (func
 abbrev pub formula_needs : List MapTable → Ctx → Term → List Ty
 formula_needs maps ctx φ = term_needs (ends_of maps) (reverse ctx.types) φ
 
--- a statement with a term is refused under another topology than the first, then for the first fault of its term, and then for the first presheaf that is no sheaf among the types that it counts
+-- a statement that counts types is refused under another topology than the first, then for the first fault of its term, and then for the first presheaf that is no sheaf among these types
 unfoldable pub refusal_in_turn : CountedWorld → ℕ → Option Fault → List Ty → Option Fault
 refusal_in_turn w under fault needed = or_else (some_if (not (eqb under 0)) refused.NotBuilt) (or_else fault (no_sheaf_among w needed))
 
@@ -140,6 +145,8 @@ refusal_over k so (statement.Hom x y) = None
 refusal_over k so (statement.Show under ctx φ) = formula_refusal so.world so.maps under ctx φ
 refusal_over k so (statement.Classify under ctx φ) = formula_refusal so.world so.maps under ctx φ
 refusal_over k so (statement.Valid under ctx φ) = formula_refusal so.world so.maps under ctx φ
+refusal_over k so (statement.Build under z T u v) = refusal_in_turn so.world under None (parts T)
+refusal_over k so (statement.Sub under z T φ i) = refusal_in_turn so.world under (formula_fault (ends_of so.maps) (T ∷ [], φ)) (map_needs so.maps T φ)
 refusal_over k so (statement.Let under m T t) = refusal_in_turn so.world under (term_map_fault so.maps T t) (map_needs so.maps T t)
 refusal_over k so stmt = elim (is_construction stmt) [ true ↦ some_if (not (fit so.maps stmt)) refused.NotParallel | false ↦ Some refused.NotBuilt ]
 
@@ -191,34 +198,44 @@ IsSealStop types so (stop.Refused fault) = no_sheaf_among so.world (flat_map par
 IsSealStop types so stop.Budget = (no_sheaf_among so.world (flat_map parts types) ≡ None) × (so.world.budget < cells_with so.world (flat_map parts types))
 IsSealStop types so stop.NoMemory = ⊤
 
--- a statement with a term is accepted, all types that it counts are sealed and within the budget, and nothing else has changed
-pub record IsTermSealed (under : ℕ) (fault : Option Fault) (needed Γ : List Ty) (t : Term) (U : Ty) (so mid : Declarations) : Type 0 where
+-- a statement is accepted, all types that it counts are sealed and within the budget, and nothing else has changed
+pub record AreNeedsSealed (under : ℕ) (fault : Option Fault) (needed : List Ty) (so mid : Declarations) : Type 0 where
   pub accepted : refusal_in_turn so.world under fault needed ≡ None
   pub maps : mid.maps ≡ so.maps
   pub types : IsGrownBy needed so.world mid.world
   pub types_fit : cells_with so.world needed ≤ so.world.budget
   pub within : world_cells mid.world ≤ so.world.budget
-  pub term : IsTermOver mid.world mid.maps Γ t U
 
 -- it is refused, or its types have more cells than the budget
-abbrev pub IsTermStop : ℕ → Option Fault → List Ty → Declarations → Stop → Type 0
-IsTermStop under fault needed so (stop.Refused refusal) = refusal_in_turn so.world under fault needed ≡ Some refusal
-IsTermStop under fault needed so stop.Budget = (refusal_in_turn so.world under fault needed ≡ None) × (so.world.budget < cells_with so.world needed)
-IsTermStop under fault needed so stop.NoMemory = ⊤
+abbrev pub IsNeedsStop : ℕ → Option Fault → List Ty → Declarations → Stop → Type 0
+IsNeedsStop under fault needed so (stop.Refused refusal) = refusal_in_turn so.world under fault needed ≡ Some refusal
+IsNeedsStop under fault needed so stop.Budget = (refusal_in_turn so.world under fault needed ≡ None) × (so.world.budget < cells_with so.world needed)
+IsNeedsStop under fault needed so stop.NoMemory = ⊤
 
--- of a formula, and of a term over one variable
+-- the same with a term over what is sealed
+pub record IsTermSealed (under : ℕ) (fault : Option Fault) (needed Γ : List Ty) (t : Term) (U : Ty) (so mid : Declarations) : Type 0 where
+  pub needs : AreNeedsSealed under fault needed so mid
+  pub term : IsTermOver mid.world mid.maps Γ t U
+
+-- of a type, of a formula, and of a term over one variable
+abbrev pub IsTypeSealed : ℕ → Ty → Declarations → Declarations → Type 0
+IsTypeSealed under T so mid = AreNeedsSealed under None (parts T) so mid
+
+abbrev pub IsTypeUnsealed : ℕ → Ty → Declarations → Stop → Type 0
+IsTypeUnsealed under T so stop = IsNeedsStop under None (parts T) so stop
+
 abbrev pub IsFormulaSealed : ℕ → Ctx → Term → Declarations → Declarations → Type 0
 IsFormulaSealed under ctx φ so mid = IsTermSealed under (formula_fault (ends_of so.maps) (reverse ctx.types, φ)) (formula_needs so.maps ctx φ) (reverse ctx.types) φ Omega so mid
 
 abbrev pub IsFormulaStop : ℕ → Ctx → Term → Declarations → Stop → Type 0
-IsFormulaStop under ctx φ so stop = IsTermStop under (formula_fault (ends_of so.maps) (reverse ctx.types, φ)) (formula_needs so.maps ctx φ) so stop
+IsFormulaStop under ctx φ so stop = IsNeedsStop under (formula_fault (ends_of so.maps) (reverse ctx.types, φ)) (formula_needs so.maps ctx φ) so stop
 
 pub record IsMapSealed (under : ℕ) (T : Ty) (t : Term) (so mid : Declarations) : Type 0 where
   pub codomain : Ty
   pub sealed : IsTermSealed under (term_map_fault so.maps T t) (map_needs so.maps T t) (T ∷ []) t codomain so mid
 
 abbrev pub IsMapStop : ℕ → Ty → Term → Declarations → Stop → Type 0
-IsMapStop under T t so stop = IsTermStop under (term_map_fault so.maps T t) (map_needs so.maps T t) so stop
+IsMapStop under T t so stop = IsNeedsStop under (term_map_fault so.maps T t) (map_needs so.maps T t) so stop
 
 -- a statement is answered, with this declared before it and behind it
 pub record IsAnsweredOver (k : Category) (so : Declarations) (stmt : Stmt) (answer : Answer) (after : Declarations) : Type 0 where

@@ -12,6 +12,7 @@ ghost use Rattle.topos_session.specs.Statements.{IsAnsweredOver, IsStoppedOver};
 use crate::Stop;
 use crate::constructions::{between, construct};
 use crate::declarations::Declarations;
+use crate::elements::{declare_part, declare_type};
 use crate::formulas::{classify, judge, show};
 use crate::homs::listed_maps;
 use crate::shapes::built;
@@ -169,6 +170,20 @@ pub(crate) fn answer(alloc: Global, so: &mut Declarations, stmt: &Stmt) -> Resul
         Stmt::Show { under, ctx, phi } => show(alloc, so, *under, ctx, phi),
         Stmt::Classify { under, ctx, phi } => classify(alloc, so, *under, ctx, phi),
         Stmt::Valid { under, ctx, phi } => judge(alloc, so, *under, ctx, phi),
+        Stmt::Build {
+            under,
+            functor,
+            ty,
+            u,
+            v,
+        } => declare_type(alloc, so, *under, *functor, ty, (*u, *v)),
+        Stmt::Sub {
+            under,
+            functor,
+            ty,
+            phi,
+            map,
+        } => declare_part(alloc, so, *under, *functor, ty, phi, *map),
         Stmt::Let {
             under,
             map,

@@ -64,7 +64,7 @@ pub(crate) fn seal_types(alloc: Global, so: &mut Declarations, types: &[Ty]) -> 
 }
 
 // Seals the types that a formula counts, where it is accepted and they are within the budget.
-fn seal_formula(
+pub(crate) fn seal_formula(
     alloc: Global,
     so: &mut Declarations,
     under: u32,

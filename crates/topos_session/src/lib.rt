@@ -4,6 +4,7 @@
 mod answer;
 mod constructions;
 mod declarations;
+mod elements;
 mod formulas;
 mod homs;
 mod listing;

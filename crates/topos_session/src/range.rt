@@ -57,6 +57,8 @@ fn declares(stmt: &Stmt) -> Option<(u32, u32)>
         Stmt::Show { .. } => Some((0, 0)),
         Stmt::Classify { .. } => Some((0, 0)),
         Stmt::Valid { .. } => Some((0, 0)),
+        Stmt::Build { .. } => Some((1, 2)),
+        Stmt::Sub { .. } => Some((1, 1)),
         Stmt::Let { .. } => Some((0, 1)),
         _ => None,
     }
@@ -119,6 +121,19 @@ fn is_in_range(
         Stmt::Show { ctx, phi, .. } => Ok(is_formula_in_range(counts, ctx, phi)),
         Stmt::Classify { ctx, phi, .. } => Ok(is_formula_in_range(counts, ctx, phi)),
         Stmt::Valid { ctx, phi, .. } => Ok(is_formula_in_range(counts, ctx, phi)),
+        Stmt::Build { functor, ty, .. } => {
+            Ok(*functor == counts.functors && is_type_in_range(counts.functors, ty))
+        }
+        Stmt::Sub {
+            functor,
+            ty,
+            phi,
+            ..
+        } => Ok(
+            *functor == counts.functors
+                && is_type_in_range(counts.functors, ty)
+                && is_term_in_range(counts.functors, counts.maps, phi),
+        ),
         Stmt::Let { ty, term, .. } => Ok(
             is_type_in_range(counts.functors, ty)
                 && is_term_in_range(counts.functors, counts.maps, term),

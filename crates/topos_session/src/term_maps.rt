@@ -1,5 +1,5 @@
 // Maps that terms define.
-ghost use Rattle.std.specs.Prelude.{◌≡◌, ◌+◌, ◌^◌, ◌<◌, true, length, IfOk, IfErr, OnErr, OnOk};
+ghost use Rattle.std.specs.Prelude.{◌≡◌, ◌+◌, ◌^◌, ◌<◌, true, [], ◌∷◌, length, IfOk, IfErr, OnErr, OnOk};
 ghost use Rattle.topos_model.specs.declared.stmt.Stmt.TheVariants as statement;
 ghost use Rattle.topos_model.specs.types.Nodes.{nodes};
 ghost use Rattle.term_ranges.specs.Ranges.{is_type_in_range, is_term_in_range};
@@ -44,14 +44,21 @@ fn nodes_of(ty: &Ty) -> Result<u32, NoMemory>
     }
 }
 
+/// The context of one variable.
+pub(crate) fn one_variable(alloc: Global, ty: &Ty) -> Result<Ctx, NoMemory>
+    ensures { IfOk result (λ ctx. ctx.types ≡ ty.now ∷ []) }
+{
+    let mut types = Row::new(alloc);
+    types.push(ty.copy(alloc)?)?;
+    Ok(Ctx { types })
+}
+
 // The types that a term over one variable counts, or why it defines no map.
 fn map_types(alloc: Global, maps: &DeclaredMaps, ty: &Ty, term: &Term) -> Result<Row<Ty>, Stop>
     ensures types { IfOk result (λ types. IsMapTyped maps.now ty.now term.now types) }
     ensures stop { IfErr result (λ stop. IsMapTypeStop maps.now ty.now term.now stop) }
 {
-    let mut types = Row::new(alloc);
-    types.push(ty.copy(alloc)?)?;
-    let ctx = Ctx { types };
+    let ctx = one_variable(alloc, ty)?;
     let found = counted(alloc, maps.ends(), &ctx, term)?;
     let nodes = nodes_of(&found.ty)?;
     if nodes > MAX_NODES {

@@ -1,7 +1,7 @@
 use Rattle.std.proofs.lemmas.Result.{IfErr-weaker, on_err_weaker}
 use Rattle.topos_session.proofs.LawfulDeclarations.{unchanged_kept}
 use Rattle.std.proofs.Common.{refl, length}
-use Rattle.topos_session.proofs.StatementRanges.{listing_of, map_range, sheaf_range, hom_range, formula_range, classified_range, judged_range, defined_range}
+use Rattle.topos_session.proofs.StatementRanges.{listing_of, map_range, sheaf_range, hom_range, formula_range, classified_range, judged_range, defined_range, built_range, part_range}
 use Rattle.topos_session.proofs.StatementAnswers.{refused_other}
 use Rattle.topos_model.specs.declared.stmt.Stmt.TheVariants.{Sheaf}
 use Rattle.topos_session.specs.Declarations.{IsKept}
@@ -47,7 +47,7 @@ list-requires-clause-codomain c =
     (hom_range c.args.so.now.world.site.category (length so.world.functors) (length so.maps) c.args.stmt.now c.in-Hom.x c.in-Hom.y c.in-Hom.is c.requires.range).1
 
 pub returns-in_default-clause-stop : goal.returns-in_default-clause-stop
-returns-in_default-clause-stop c = refused_other c.args.so.now.world.site.category c.args.so.now c.args.stmt.now c.in_default.not-Presheaf c.in_default.not-Map c.in_default.not-Product c.in_default.not-Coproduct c.in_default.not-Equalizer c.in_default.not-Coequalizer c.in_default.not-Pullback c.in_default.not-Pushout c.in_default.not-Image c.in_default.not-Empty c.in_default.not-Sheaf c.in_default.not-Hom c.in_default.not-Show c.in_default.not-Classify c.in_default.not-Valid c.in_default.not-Let
+returns-in_default-clause-stop c = refused_other c.args.so.now.world.site.category c.args.so.now c.args.stmt.now c.in_default.not-Presheaf c.in_default.not-Map c.in_default.not-Product c.in_default.not-Coproduct c.in_default.not-Equalizer c.in_default.not-Coequalizer c.in_default.not-Pullback c.in_default.not-Pushout c.in_default.not-Image c.in_default.not-Empty c.in_default.not-Sheaf c.in_default.not-Hom c.in_default.not-Show c.in_default.not-Classify c.in_default.not-Valid c.in_default.not-Let c.in_default.not-Build c.in_default.not-Sub
 
 pub returns-in-Presheaf-clause-unchanged : goal.returns-in-Presheaf-clause-unchanged
 returns-in-Presheaf-clause-unchanged c = on_err_weaker c.declare_presheaf.result (unchanged_kept c.args.so.now c.declare_presheaf.new.so) c.declare_presheaf.ensures.unchanged
@@ -112,3 +112,28 @@ pub define-requires-clause-range : goal.define-requires-clause-range
 define-requires-clause-range c =
     let so = c.args.so.now in
     (defined_range so.world.site.category.objects so.world.site.category.ends (length so.world.functors) (length so.maps) c.args.stmt.now c.in-Let.under c.in-Let.map c.in-Let.ty c.in-Let.term c.in-Let.is c.requires.range).1
+
+pub declare_type-requires-clause-next : goal.declare_type-requires-clause-next
+declare_type-requires-clause-next c =
+    let so = c.args.so.now in
+    (built_range so.world.site.category.objects so.world.site.category.ends (length so.world.functors) (length so.maps) c.args.stmt.now c.in-Build.under c.in-Build.functor c.in-Build.ty c.in-Build.u c.in-Build.v c.in-Build.is c.requires.range).0
+
+pub declare_type-requires-clause-range : goal.declare_type-requires-clause-range
+declare_type-requires-clause-range c =
+    let so = c.args.so.now in
+    (built_range so.world.site.category.objects so.world.site.category.ends (length so.world.functors) (length so.maps) c.args.stmt.now c.in-Build.under c.in-Build.functor c.in-Build.ty c.in-Build.u c.in-Build.v c.in-Build.is c.requires.range).1
+
+pub declare_part-requires-clause-next : goal.declare_part-requires-clause-next
+declare_part-requires-clause-next c =
+    let so = c.args.so.now in
+    (part_range so.world.site.category.objects so.world.site.category.ends (length so.world.functors) (length so.maps) c.args.stmt.now c.in-Sub.under c.in-Sub.functor c.in-Sub.ty c.in-Sub.phi c.in-Sub.map c.in-Sub.is c.requires.range).next
+
+pub declare_part-requires-clause-type_range : goal.declare_part-requires-clause-type_range
+declare_part-requires-clause-type_range c =
+    let so = c.args.so.now in
+    (part_range so.world.site.category.objects so.world.site.category.ends (length so.world.functors) (length so.maps) c.args.stmt.now c.in-Sub.under c.in-Sub.functor c.in-Sub.ty c.in-Sub.phi c.in-Sub.map c.in-Sub.is c.requires.range).type
+
+pub declare_part-requires-clause-range : goal.declare_part-requires-clause-range
+declare_part-requires-clause-range c =
+    let so = c.args.so.now in
+    (part_range so.world.site.category.objects so.world.site.category.ends (length so.world.functors) (length so.maps) c.args.stmt.now c.in-Sub.under c.in-Sub.functor c.in-Sub.ty c.in-Sub.phi c.in-Sub.map c.in-Sub.is c.requires.range).formula

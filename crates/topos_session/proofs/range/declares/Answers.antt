@@ -5,4 +5,4 @@ use Rattle.topos_session.proofs.range.declares.Goals as goal
 pub returns-in_default : goal.returns-in_default
 returns-in_default c =
     let d = c.in_default in
-    sym (declares-other c.args.stmt.now d.not-Presheaf d.not-Map d.not-Product d.not-Coproduct d.not-Equalizer d.not-Coequalizer d.not-Pullback d.not-Pushout d.not-Image d.not-Empty d.not-Sheaf d.not-Hom d.not-Show d.not-Classify d.not-Valid d.not-Let)
+    sym (declares-other c.args.stmt.now d.not-Presheaf d.not-Map d.not-Product d.not-Coproduct d.not-Equalizer d.not-Coequalizer d.not-Pullback d.not-Pushout d.not-Image d.not-Empty d.not-Sheaf d.not-Hom d.not-Show d.not-Classify d.not-Valid d.not-Let d.not-Build d.not-Sub)

@@ -24,13 +24,13 @@ term_map-requires-clause-known c =
 pub term_map-requires-clause-type_range : goal.term_map-requires-clause-type_range
 term_map-requires-clause-type_range c =
     let h = c.in_ok-seal_map.ensures.sealed in
-    subst (λ (w : CountedWorld). is_type_in_range (length w.functors) c.args.ty.now ≡ true) (sym h.sealed.types.grown.is) c.requires.type_range
+    subst (λ (w : CountedWorld). is_type_in_range (length w.functors) c.args.ty.now ≡ true) (sym h.sealed.needs.types.grown.is) c.requires.type_range
 
 pub term_map-requires-clause-range : goal.term_map-requires-clause-range
 term_map-requires-clause-range c =
     let h = c.in_ok-seal_map.ensures.sealed in
-    let n = ap (λ (w : CountedWorld). length w.functors) h.sealed.types.grown.is in
-    subst (λ l. is_term_in_range (length c.seal_map.new.so.world.functors) l c.args.term.now ≡ true) (sym (ap length (c.tables.ensures ∙ h.sealed.maps)))
+    let n = ap (λ (w : CountedWorld). length w.functors) h.sealed.needs.types.grown.is in
+    subst (λ l. is_term_in_range (length c.seal_map.new.so.world.functors) l c.args.term.now ≡ true) (sym (ap length (c.tables.ensures ∙ h.sealed.needs.maps)))
     (subst (λ k. is_term_in_range k (length c.args.so.now.maps) c.args.term.now ≡ true) (sym n) c.requires.range)
 
 pub returns-clause-answer : goal.returns-clause-answer
