@@ -25,7 +25,7 @@ use Rattle.type_laws.proofs.Presheaves.{Distinct-elements, types_presheaf}
 use Rattle.type_laws.proofs.TypeFunctors.{types_are_functors}
 use Rattle.omega_object.specs.declared.omega.Omega.{Omega}
 use Rattle.omega_object.specs.Tables.{IsOmegaOn}
-use Rattle.formula_tables.specs.Stages.{AreStages}
+use Rattle.site_stages.specs.Stages.{AreStages}
 use Rattle.term_tables.specs.Parts.{AreImages}
 use Rattle.internal_interp.specs.declared.interpreter.Interpreter.{Interpreter}
 use Rattle.sealed_world.specs.SealedWorlds.{CountedWorld, IsStoreOf}
@@ -174,7 +174,7 @@ module _ (w : CountedWorld) (tables : List MapTable) where
         }
 
   module _ (i : Interpreter) (site : i.site.now ≡ w.site) (category : IsCategory w.site.category) (few : length w.site.category.ends ≤ max_arrows) (topology : IsTopology w.site)
-      (stages : AreStages (world_of w tables) i.stages.now) (held : IsStoreOf w i.store.now) (lawful : (Ω : Bor Omega) → i.omega ≡ Some Ω → IsOmegaOn w.site Ω.now)
+      (stages : AreStages w.site i.stages.now) (held : IsStoreOf w i.store.now) (lawful : (Ω : Bor Omega) → i.omega ≡ Some Ω → IsOmegaOn w.site Ω.now)
       (there : In w.types OmegaType → (Ω : Bor Omega) × (i.omega ≡ Some Ω)) (are : AreMapTables w.site w.functors tables) (given : i.maps.now ≡ tables) where
     functors : All (IsFunctor w.site.category) w.functors
     functors = λ n X low. subst (IsFunctor w.site.category) (get_or_default w.functors n _ X low) (held.faithful.named n (held.presheaves n low)).1

@@ -8,7 +8,6 @@ ghost use Rattle.formula_answers.specs.Stages.{kept};
 
 use crate::interpreting::{elements, interpreter};
 use crate::stages::{tuples_with, tuples_with_sieves};
-use formula_tables::Stages;
 use internal_interp::{formula_truths, scope, term_values};
 use sealed_world::SealedWorld;
 use std::alloc::Global;
@@ -26,8 +25,7 @@ fn tuples_where(
     requires formula { IsFormulaOver world.now maps.now (reverse types.now) formula.now }
     ensures { IfOk result (λ stages. stages ≡ map (λ c. map tuple_of (kept forced (forces (world_of world.now maps.now) formula.now c) (tuples (world_of world.now maps.now) (reverse types.now) c))) (objects_of world.now.site.category)) }
 {
-    let stages = Stages::of(alloc, world.site())?;
-    let interpreter = interpreter(world, maps, &stages);
+    let interpreter = interpreter(world, maps);
     let context = scope(alloc, &interpreter, types)?;
     let truths = formula_truths(alloc, &interpreter, &context, formula)?;
     tuples_with(
@@ -79,8 +77,7 @@ pub fn classified(
     requires formula { IsFormulaOver world.now maps.now (reverse types.now) formula.now }
     ensures stages { IfOk result (λ stages. stages ≡ map (classified (world_of world.now maps.now) (reverse types.now) formula.now) (objects_of world.now.site.category)) }
 {
-    let stages = Stages::of(alloc, world.site())?;
-    let interpreter = interpreter(world, maps, &stages);
+    let interpreter = interpreter(world, maps);
     let context = scope(alloc, &interpreter, types)?;
     let values = term_values(alloc, &interpreter, &context, formula)?;
     tuples_with_sieves(

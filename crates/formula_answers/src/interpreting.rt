@@ -1,23 +1,16 @@
 // What formulas are interpreted by, and what their tuples are read from.
 ghost use Rattle.std.specs.Prelude.{◌≡◌};
-ghost use Rattle.formula_tables.specs.Stages.{AreStages};
 ghost use Rattle.formula_answers.specs.MapTables.{AreMapTables};
-ghost use Rattle.formula_answers.specs.Formulas.{world_of, reading, Serves};
+ghost use Rattle.formula_answers.specs.Formulas.{reading, Serves};
 
 use element_values::Elements;
-use formula_tables::Stages;
 use internal_interp::Interpreter;
 use sealed_world::SealedWorld;
 use topos_model::MapTable;
 
 /// A sealed world, whose types are sealed and whose presheaves are declared, with maps by their tables.
-pub fn interpreter<'a>(
-    world: &'a SealedWorld,
-    maps: &'a [MapTable],
-    stages: &'a Stages,
-) -> Interpreter<'a>
+pub fn interpreter<'a>(world: &'a SealedWorld, maps: &'a [MapTable]) -> Interpreter<'a>
     requires maps { AreMapTables world.now.site world.now.functors maps.now }
-    requires stages { AreStages (world_of world.now maps.now) stages.now }
     ensures serves { Serves world.now maps.now result }
 {
     let site = world.site();
@@ -25,7 +18,7 @@ pub fn interpreter<'a>(
     let _top = site.top();
     Interpreter {
         site,
-        stages,
+        stages: world.stages(),
         store: world.store(),
         omega: world.truth_values(),
         maps,

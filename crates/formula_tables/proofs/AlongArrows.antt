@@ -16,8 +16,9 @@ use Rattle.truth_tables.specs.Tables.{table, bit, number, along as truth_along, 
 use Rattle.truth_tables.specs.Arrows.{ArePlaces, AreRestricted}
 use Rattle.truth_tables.specs.Standing.{tuple_at, IsTruthTable}
 use Rattle.truth_tables.proofs.Standing.{truth_table, counts_long, counts_at}
-use Rattle.formula_tables.specs.declared.stages.Stages.{Stages}
-use Rattle.formula_tables.specs.Stages.{arrow_at, AreChosen, AreTuples}
+use Rattle.site_stages.specs.declared.stages.Stages.{Stages}
+use Rattle.site_stages.specs.Stages.{arrow_at, AreChosen}
+use Rattle.formula_tables.specs.Tuples.{AreTuples}
 use Rattle.formula_tables.specs.Formulas.{IsContext}
 use Rattle.formula_tables.proofs.ContextFunctors.{context_tuples}
 
@@ -52,11 +53,11 @@ module _ (w : World) (Γ : List Ty) (stages : Stages) (store : Store) (id : ℕ)
   pub sources_at : (c : ℕ) → c < w.site.category.objects → length (get_or stages.sources c []) ≡ length (onto w c)
   sources_at c low = ap length (known.stands.sources c low) ∙ length-map (onto w c) (source w)
 
-  pub source_at : (c j : ℕ) → c < w.site.category.objects → j < length (onto w c) → number stages.sources c j ≡ source w (arrow_at w c j)
+  pub source_at : (c j : ℕ) → c < w.site.category.objects → j < length (onto w c) → number stages.sources c j ≡ source w (arrow_at w.site c j)
   source_at c j low there = ap (λ l. get_or l j 0) (known.stands.sources c low) ∙ get_or-map (source w) (onto w c) j 0 0 there
 
-  pub domain_low : (c j : ℕ) → c < w.site.category.objects → j < length (onto w c) → source w (arrow_at w c j) < w.site.category.objects
-  domain_low c j low there = source_low w known.lawful.1 c (arrow_at w c j) (In-into_from w.site.category c (arrow_at w c j) (In_at (into w.site.category c) j 0 there))
+  pub domain_low : (c j : ℕ) → c < w.site.category.objects → j < length (onto w c) → source w (arrow_at w.site c j) < w.site.category.objects
+  domain_low c j low there = source_low w known.lawful.1 c (arrow_at w.site c j) (In-into_from w.site.category c (arrow_at w.site c j) (In_at (into w.site.category c) j 0 there))
 
   pub restricted : AreRestricted (functor_at store.sealed id) store.ends sizes stages.sources
   restricted = record {
@@ -73,10 +74,10 @@ module _ (w : World) (Γ : List Ty) (stages : Stages) (store : Store) (id : ℕ)
         let t : j < length (onto w c) = omega (arith, there, sources_at c l) in
         let m : i < length (tuples w Γ c) = omega (arith, inside, size_at_object c l) in
         subst (λ d. get_or (restrictions_at F c i) j 0 < get_or sizes d 0) (sym (source_at c j l t))
-        (omega (arith, tuples_are.within c i j l m t, size_at_object (source w (arrow_at w c j)) (domain_low c j l t)));
+        (omega (arith, tuples_are.within c i j l m t, size_at_object (source w (arrow_at w.site c j)) (domain_low c j l t)));
   }
 
-  module _ (arrows : ℕ → List ℕ) (chosen : List (List ℕ)) (are : AreChosen w arrows chosen) where
+  module _ (arrows : ℕ → List ℕ) (chosen : List (List ℕ)) (are : AreChosen w.site arrows chosen) where
     pub places : ArePlaces stages.sources chosen
     places = record {
       objects = are.objects ∙ sym known.stands.objects;
@@ -92,14 +93,14 @@ module _ (w : World) (Γ : List Ty) (stages : Stages) (store : Store) (id : ℕ)
         truth_table w Γ sizes known.counted (λ c a. list_all (λ f. φ (source w f) (along w f a)) (arrows c)) _ out is
         (λ c i low inside.
         let a = tuple_at w Γ c i in
-        list_all_same (truth_along truths (get_or stages.sources c []) (restrictions_at F c i)) (λ j. φ (source w (arrow_at w c j)) (along w (arrow_at w c j) a)) (get_or chosen c [])
+        list_all_same (truth_along truths (get_or stages.sources c []) (restrictions_at F c i)) (λ j. φ (source w (arrow_at w.site c j)) (along w (arrow_at w.site c j) a)) (get_or chosen c [])
         (λ j m.
         let there = are.within c j low m in
         let d = domain_low c j low there in
         ap (λ o. bit truths o (get_or (restrictions_at F c i) j 0)) (source_at c j low there)
-        ∙ stands.truths (source w (arrow_at w c j)) (get_or (restrictions_at F c i) j 0) d (tuples_are.within c i j low inside there)
-        ∙ ap (φ (source w (arrow_at w c j))) (tuples_are.restricted c i j low inside there))
-        ∙ sym (list_all_map (λ f. φ (source w f) (along w f a)) (arrow_at w c) (get_or chosen c []))
+        ∙ stands.truths (source w (arrow_at w.site c j)) (get_or (restrictions_at F c i) j 0) d (tuples_are.within c i j low inside there)
+        ∙ ap (φ (source w (arrow_at w.site c j))) (tuples_are.restricted c i j low inside there))
+        ∙ sym (list_all_map (λ f. φ (source w f) (along w f a)) (arrow_at w.site c) (get_or chosen c []))
         ∙ ap (list_all (λ f. φ (source w f) (along w f a))) (are.are c low))
 
   -- what is given to a table along arrows
@@ -110,10 +111,10 @@ module _ (w : World) (Γ : List Ty) (stages : Stages) (store : Store) (id : ℕ)
   pub restricted_slice : (sources : List (List ℕ)) → sources ≡ stages.sources → AreRestricted (functor_at store.sealed id) store.ends sizes sources
   restricted_slice sources e = subst (AreRestricted (functor_at store.sealed id) store.ends sizes) (sym e) restricted
 
-  pub places_slice : (arrows : ℕ → List ℕ) (sources chosen chosen' : List (List ℕ)) → AreChosen w arrows chosen → sources ≡ stages.sources → chosen' ≡ chosen → ArePlaces sources chosen'
+  pub places_slice : (arrows : ℕ → List ℕ) (sources chosen chosen' : List (List ℕ)) → AreChosen w.site arrows chosen → sources ≡ stages.sources → chosen' ≡ chosen → ArePlaces sources chosen'
   places_slice arrows sources chosen chosen' are e e' = subst (λ l. ArePlaces l chosen') (sym e) (subst (ArePlaces stages.sources) (sym e') (places arrows chosen are))
 
-  along_slice : (arrows : ℕ → List ℕ) (chosen : List (List ℕ)) → AreChosen w arrows chosen → (sources chosen' : List (List ℕ)) → sources ≡ stages.sources → chosen' ≡ chosen →
+  along_slice : (arrows : ℕ → List ℕ) (chosen : List (List ℕ)) → AreChosen w.site arrows chosen → (sources chosen' : List (List ℕ)) → sources ≡ stages.sources → chosen' ≡ chosen →
       (φ : Property) (truths out : List (List Bool)) → IsTruthTable w Γ φ truths →
       out ≡ table sizes (λ c i. list_all (truth_along truths (get_or sources c []) (restrictions_at (functor_at store.sealed id) c i)) (get_or chosen' c [])) →
       IsTruthTable w Γ (λ c a. list_all (λ f. φ (source w f) (along w f a)) (arrows c)) out

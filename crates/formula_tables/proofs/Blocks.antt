@@ -15,7 +15,7 @@ use Rattle.truth_tables.specs.Tables.{table, block, decided}
 use Rattle.truth_tables.specs.Standing.{tuple_at, IsTruthTable}
 use Rattle.truth_tables.proofs.Standing.{truth_table, counts_long, counts_at}
 use Rattle.formula_tables.specs.Formulas.{quantified_at, IsBody}
-use Rattle.formula_tables.specs.declared.stages.Stages.{Stages}
+use Rattle.site_stages.specs.declared.stages.Stages.{Stages}
 use Rattle.functor_store.specs.Store.{Store}
 
 module _ {A B : Type 0} (f : A → List B) (w : ℕ) (each : (x : A) → length (f x) ≡ w) where

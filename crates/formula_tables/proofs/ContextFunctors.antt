@@ -22,7 +22,8 @@ use Rattle.forcing_laws.specs.Tuples.{paired, PairsTuples}
 use Rattle.forcing_laws.proofs.TupleLists.{tuples_are_product}
 use Rattle.forcing_laws.proofs.Tuples.{tuples_restrict}
 use Rattle.truth_tables.specs.Standing.{tuple_at}
-use Rattle.formula_tables.specs.Stages.{arrow_at, AreTuples}
+use Rattle.site_stages.specs.Stages.{arrow_at}
+use Rattle.formula_tables.specs.Tuples.{AreTuples}
 
 -- a member stands somewhere
 stands_at : {A : Type 0} (xs : List A) (x d : A) → In xs x → (n : ℕ) × (n < length xs) × (get_or xs n d ≡ x)
@@ -72,22 +73,22 @@ module _ (w : World) (maps : List MapTy) (world : IsWorld w maps) (Γ : List Ty)
     size : (c : ℕ) → c < w.site.category.objects → size_at (functor_at store.sealed id) c ≡ length (tuples w Γ c)
     size c low = has.sizes c low ∙ tuple_count c
 
-    into_at : (c j : ℕ) → j < length (onto w c) → IsInto w.site.category c (arrow_at w c j)
-    into_at c j low = In-into_from k c (arrow_at w c j) (In_at (into k c) j 0 low)
+    into_at : (c j : ℕ) → j < length (onto w c) → IsInto w.site.category c (arrow_at w.site c j)
+    into_at c j low = In-into_from k c (arrow_at w.site c j) (In_at (into k c) j 0 low)
 
-    place_at : (c j : ℕ) → j < length (onto w c) → place w.site.category.ends (arrow_at w c j) ≡ j
+    place_at : (c j : ℕ) → j < length (onto w c) → place w.site.category.ends (arrow_at w.site c j) ≡ j
     place_at c j low =
         let i = into_at c j low in
-        let p = place_is k (arrow_at w c j) i.0 in
-        let q : (place k.ends (arrow_at w c j) < length (into k c)) × (get_or (into k c) (place k.ends (arrow_at w c j)) 0 ≡ arrow_at w c j) =
-        subst (λ d. (place k.ends (arrow_at w c j) < length (into k d)) × (get_or (into k d) (place k.ends (arrow_at w c j)) 0 ≡ arrow_at w c j)) i.1 p in
-        one_place (into k c) 0 (place k.ends (arrow_at w c j)) j (Distinct-into k c) q.0 low q.1
+        let p = place_is k (arrow_at w.site c j) i.0 in
+        let q : (place k.ends (arrow_at w.site c j) < length (into k c)) × (get_or (into k c) (place k.ends (arrow_at w.site c j)) 0 ≡ arrow_at w.site c j) =
+        subst (λ d. (place k.ends (arrow_at w.site c j) < length (into k d)) × (get_or (into k d) (place k.ends (arrow_at w.site c j)) 0 ≡ arrow_at w.site c j)) i.1 p in
+        one_place (into k c) 0 (place k.ends (arrow_at w.site c j)) j (Distinct-into k c) q.0 low q.1
 
     -- the restriction along the arrow at place j stands for the restricted tuple
     stands : (c i j : ℕ) → c < w.site.category.objects → i < length (tuples w Γ c) → j < length (onto w c) →
-        Stands w.site w.functors (product Γ) (source w (arrow_at w c j)) (get_or (restrictions_at (functor_at store.sealed id) c i) j 0) (restr w.site w.functors (product Γ) (arrow_at w c j) (element c i))
+        Stands w.site w.functors (product Γ) (source w (arrow_at w.site c j)) (get_or (restrictions_at (functor_at store.sealed id) c i) j 0) (restr w.site w.functors (product Γ) (arrow_at w.site c j) (element c i))
     stands c i j low inside there =
-        let f = arrow_at w c j in
+        let f = arrow_at w.site c j in
         let a = into_at c j there in
         let read : restriction_along k.ends F f i ≡ get_or (restrictions_at F c i) j 0 =
         ap (λ d. get_or (restrictions_at F d i) (place k.ends f) 0) a.1 ∙ ap (λ p. get_or (restrictions_at F c i) p 0) (place_at c j there) in
@@ -96,15 +97,15 @@ module _ (w : World) (maps : List MapTy) (world : IsWorld w maps) (Γ : List Ty)
         (has.restrictions f i a.0 (subst (λ d. i < size_at F d) (sym a.1) (omega (arith, inside, size c low)))))
 
     within_at : (c i j : ℕ) → c < w.site.category.objects → i < length (tuples w Γ c) → j < length (onto w c) →
-        get_or (restrictions_at (functor_at store.sealed id) c i) j 0 < length (tuples w Γ (source w (arrow_at w c j)))
-    within_at c i j low inside there = let s = (stands c i j low inside there).within in omega (arith, s, tuple_count (source w (arrow_at w c j)))
+        get_or (restrictions_at (functor_at store.sealed id) c i) j 0 < length (tuples w Γ (source w (arrow_at w.site c j)))
+    within_at c i j low inside there = let s = (stands c i j low inside there).within in omega (arith, s, tuple_count (source w (arrow_at w.site c j)))
 
     pub context_tuples : AreTuples w Γ (functor_at store.sealed id)
     context_tuples = record {
       sizes = size;
       within = within_at;
       restricted = λ c i j low inside there.
-          let f = arrow_at w c j in
+          let f = arrow_at w.site c j in
           let m = In_at (tuples w Γ c) i [] inside in
           tuple_by_pair (source w f) (get_or (restrictions_at F c i) j 0) (along w f (tuple_at w Γ c i)) (within_at c i j low inside there)
           ((tuples_restrict w world Γ).within c f (tuple_at w Γ c i) (into_at c j there) m)

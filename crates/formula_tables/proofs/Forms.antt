@@ -2,6 +2,7 @@
 use Rattle.std.proofs.Common.{◌≡◌, ℕ, Bool, true, false, List, get_or, refl, sym, ap, subst, ◌∙◌}
 use Rattle.topos_model.specs.declared.ty.Ty.{Ty}
 use Rattle.topos_model.specs.formulas.Forcing.{World, Property, falsity_forced, and_forced, or_forced, implies_forced, not_forced, exists_forced, forall_forced, unique_forced, locally, always}
+use Rattle.topos_model.specs.certificates.CertificateNodes.{same_truth}
 use Rattle.topologies.proofs.SomeCovers.{some_cover}
 use Rattle.functor_store.specs.Store.{Store}
 use Rattle.truth_tables.specs.declared.connectives.Connective.{Connective}
@@ -11,8 +12,8 @@ use Rattle.truth_tables.specs.declared.quantifiers.Quantifier.TheVariants.{Some,
 use Rattle.truth_tables.specs.Tables.{table, bit, connected}
 use Rattle.truth_tables.specs.Standing.{counts, IsTruthTable}
 use Rattle.truth_tables.proofs.Standing.{truth_table}
-use Rattle.formula_tables.specs.declared.stages.Stages.{Stages}
-use Rattle.formula_tables.specs.Formulas.{IsContext, AreFormulas, connected_at, quantified_at, connected_forced, quantified_forced}
+use Rattle.site_stages.specs.declared.stages.Stages.{Stages}
+use Rattle.formula_tables.specs.Formulas.{IsContext, AreFormulas, connected_at, agreeing_at, equivalent_forced, quantified_at, connected_forced, quantified_forced}
 
 module _ (w : World) (Γ : List Ty) where
   pub truth_stands : (sizes : List ℕ) (out : List (List Bool)) → sizes ≡ counts w Γ → out ≡ table sizes (λ c i. true) → IsTruthTable w Γ (λ c a. true) out
@@ -34,6 +35,13 @@ module _ (w : World) (Γ : List Ty) where
         truth_table w Γ sizes h.known.counted (connected_at k φ ψ) _ out is
         (λ c i low inside. ap (λ b. connected k b (bit right c i)) (h.left_stands.truths c i low inside) ∙ ap (connected k _) (h.right_stands.truths c i low inside))
 
+    pub agreeing_stands : (φ ψ : Property) (left right : List (List Bool)) → AreFormulas w Γ φ ψ stages store id sizes left right → (out : List (List Bool)) →
+        out ≡ table sizes (λ c i. same_truth (bit left c i) (bit right c i)) → IsTruthTable w Γ (agreeing_at φ ψ) out
+    unfolding agreeing_at
+    agreeing_stands φ ψ left right h out is =
+        truth_table w Γ sizes h.known.counted (agreeing_at φ ψ) _ out is
+        (λ c i low inside. ap (λ b. same_truth b (bit right c i)) (h.left_stands.truths c i low inside) ∙ ap (same_truth _) (h.right_stands.truths c i low inside))
+
 -- the rows of the forcing table
 module _ (w : World) (Γ : List Ty) (out : List (List Bool)) where
   pub and_row : (k : Connective) (φ ψ : Property) → k ≡ And → IsTruthTable w Γ (connected_at k φ ψ) out → IsTruthTable w Γ (connected_forced w k φ ψ) out
@@ -47,6 +55,10 @@ module _ (w : World) (Γ : List Ty) (out : List (List Bool)) where
   pub implies_row : (k : Connective) (φ ψ : Property) → k ≡ Implies → IsTruthTable w Γ (always w (connected_at k φ ψ)) out → IsTruthTable w Γ (connected_forced w k φ ψ) out
   unfolding connected_at connected_forced implies_forced
   implies_row k φ ψ e h = subst (λ k. IsTruthTable w Γ (connected_forced w k φ ψ) out) (sym e) (subst (λ k. IsTruthTable w Γ (always w (connected_at k φ ψ)) out) e h)
+
+  pub equivalent_row : (φ ψ : Property) → IsTruthTable w Γ (always w (agreeing_at φ ψ)) out → IsTruthTable w Γ (equivalent_forced w φ ψ) out
+  unfolding equivalent_forced
+  equivalent_row φ ψ h = h
 
   pub not_row : (φ : Property) → IsTruthTable w Γ (connected_forced w Implies φ (falsity_forced w)) out → IsTruthTable w Γ (not_forced w φ) out
   unfolding connected_forced implies_forced not_forced

@@ -4,7 +4,8 @@ use Rattle.std.specs.List.{list_any, list_all, range_with_len}
 use Rattle.topos_model.specs.declared.ty.Ty.{Ty}
 use Rattle.topos_model.specs.declared.context.MapTy.{MapTy}
 use Rattle.topos_model.specs.statements.Needs.{product}
-use Rattle.topos_model.specs.formulas.Forcing.{World, Property, values, and_forced, or_forced, implies_forced, exists_forced, forall_forced, unique_forced}
+use Rattle.topos_model.specs.certificates.CertificateNodes.{same_truth}
+use Rattle.topos_model.specs.formulas.Forcing.{World, Property, values, always, and_forced, or_forced, implies_forced, exists_forced, forall_forced, unique_forced}
 use Rattle.topos_model.specs.formulas.TermLaws.{IsWorld}
 use Rattle.functor_store.specs.Store.{Store, functor_at}
 use Rattle.functor_store.specs.Faithful.{IsFaithful}
@@ -14,14 +15,14 @@ use Rattle.truth_tables.specs.declared.quantifiers.Quantifier.{Quantifier}
 use Rattle.truth_tables.specs.declared.quantifiers.Quantifier.TheVariants.{Some, Every, One}
 use Rattle.truth_tables.specs.Tables.{connected}
 use Rattle.truth_tables.specs.Standing.{counts, IsTruthTable}
-use Rattle.formula_tables.specs.declared.stages.Stages.{Stages}
-use Rattle.formula_tables.specs.Stages.{AreStages}
+use Rattle.site_stages.specs.declared.stages.Stages.{Stages}
+use Rattle.site_stages.specs.Stages.{AreStages}
 
 module _ (w : World) (Γ : List Ty) where
   -- a lawful world, a store that is faithful to its site and its functors, the product of a context that is sealed there, and the numbers of tuples
   pub record IsContext (stages : Stages) (store : Store) (context : ℕ) (sizes : List ℕ) : Type 0 where
     pub lawful : (maps : List MapTy) × IsWorld w maps
-    pub stands : AreStages w stages
+    pub stands : AreStages w.site stages
     pub faithful : IsFaithful w.site w.functors store
     pub sealed : context < length store.sealed
     pub key : (functor_at store.sealed context).key ≡ product Γ
@@ -43,6 +44,13 @@ module _ (w : World) (Γ : List Ty) where
     pub known : IsContext stages store context sizes
     pub widths_are : widths ≡ map (λ c. length (values w T c)) (range_with_len 0 w.site.category.objects)
     pub stands : IsTruthTable w (T ∷ Γ) φ body
+
+-- whether two formulas agree at a tuple, and whether they agree along all arrows
+unfoldable pub agreeing_at : Property → Property → Property
+agreeing_at φ ψ c a = same_truth (φ c a) (ψ c a)
+
+unfoldable pub equivalent_forced : World → Property → Property → Property
+equivalent_forced w φ ψ = always w (agreeing_at φ ψ)
 
 -- a connective at a tuple, and a quantifier over the values there
 unfoldable pub connected_at : Connective → Property → Property → Property

@@ -1,3 +1,2 @@
-pub mod Places
-pub mod Stages
+pub mod Tuples
 pub mod Formulas

@@ -5,8 +5,8 @@ ghost use Rattle.topos_model.specs.formulas.Forcing.{World, Property, locally, a
 ghost use Rattle.truth_tables.specs.Standing.{IsTruthTable};
 ghost use Rattle.formula_tables.specs.Formulas.{IsFormula};
 
-use crate::Stages;
 use functor_store::{FunctorId, FunctorStore};
+use site_stages::Stages;
 use std::alloc::Global;
 use topos_model::NoMemory;
 use truth_tables::{Truths, everywhere};

@@ -3,14 +3,14 @@ ghost use Rattle.std.specs.Prelude.{◌≡◌, ◌<◌, ◌^◌, true, List, len
 ghost use Rattle.topos_model.specs.declared.ty.Ty.{Ty};
 ghost use Rattle.topos_model.specs.formulas.Forcing.{World, Property, falsity_forced, not_forced};
 ghost use Rattle.truth_tables.specs.Standing.{counts, IsTruthTable};
-ghost use Rattle.formula_tables.specs.Formulas.{IsContext, AreFormulas, IsFormula, IsBody, connected_forced, quantified_forced};
+ghost use Rattle.formula_tables.specs.Formulas.{IsContext, AreFormulas, IsFormula, IsBody, connected_forced, equivalent_forced, quantified_forced};
 
-use crate::Stages;
 use crate::along::{always, locally};
 use functor_store::{FunctorId, FunctorStore};
+use site_stages::Stages;
 use std::alloc::Global;
 use topos_model::NoMemory;
-use truth_tables::{Connective, Quantifier, Truths, combine, constant, quantify, table};
+use truth_tables::{Connective, Quantifier, Truths, agreeing, combine, constant, quantify, table};
 
 /// What is always forced.
 pub fn truth(alloc: Global, sizes: &[u32]) -> Result<Truths, NoMemory>
@@ -65,6 +65,24 @@ pub fn connect(
         Connective::Or => locally(alloc, stages, store, context, sizes, &both),
         Connective::Implies => always(alloc, stages, store, context, sizes, &both),
     }
+}
+
+/// Where two formulas agree along all arrows.
+pub fn equivalent(
+    alloc: Global,
+    stages: &Stages,
+    store: &FunctorStore,
+    context: FunctorId,
+    sizes: &[u32],
+    left: &Truths,
+    right: &Truths,
+) -> Result<Truths, NoMemory>
+    requires objects { length sizes.now < 2 ^ 32 }
+    requires parts { (w : World) × (Γ : List Ty) × (φ : Property) × (ψ : Property) × AreFormulas w Γ φ ψ stages.now store.now context sizes.now left.now right.now }
+    ensures { IfOk result (λ truths. (w : World) (Γ : List Ty) (φ ψ : Property) → AreFormulas w Γ φ ψ stages.now store.now context sizes.now left.now right.now → IsTruthTable w Γ (equivalent_forced w φ ψ) truths) }
+{
+    let here = agreeing(alloc, sizes, left, right)?;
+    always(alloc, stages, store, context, sizes, &here)
 }
 
 /// The negation of a formula.

@@ -3,8 +3,6 @@
 
 mod along;
 mod formulas;
-mod stages;
 
 pub use along::{always, locally};
-pub use formulas::{connect, falsity, negate, quantified, truth};
-pub use stages::Stages;
+pub use formulas::{connect, equivalent, falsity, negate, quantified, truth};

@@ -18,12 +18,14 @@ use Rattle.formula_tables.specs.Formulas.{connected_forced, quantified_forced}
 use Rattle.internal_interp.specs.declared.context.Context.{Context}
 use Rattle.internal_interp.specs.declared.interpreter.Interpreter.{Interpreter}
 use Rattle.internal_interp.specs.declared.interpreter.Valued.{Valued}
-use Rattle.internal_interp.specs.Known.{IsScope, IsKnown, IsValued, IsForced, ArePair, IsBinding}
+use Rattle.internal_interp.specs.declared.interpreter.Interpreted.{Interpreted}
+use Rattle.internal_interp.specs.declared.interpreter.Interpreted.TheVariants.{Formula}
+use Rattle.internal_interp.specs.Known.{IsScope, IsKnown, IsValued, IsForced, IsInterpreted, ArePair, IsBinding}
 use Rattle.internal_interp.specs.Images.{IsArgument}
 use Rattle.internal_interp.specs.Readings.{AreApplied, AreEquated, AreMember}
 use Rattle.internal_interp.specs.Abstractions.{IsFunctionFrom, IsSetFrom}
-use Rattle.internal_interp.specs.Formulas.{AreJoined, IsNegatedFrom, IsBoundFrom}
-use Rattle.internal_interp.specs.Interpretations.{HasValues, HasTruths, connected_term, quantified_term}
+use Rattle.internal_interp.specs.Formulas.{AreJoined, AreEquivalent, IsNegatedFrom, IsBoundFrom}
+use Rattle.internal_interp.specs.Interpretations.{HasValues, HasTruths, HasMeaning, connected_term, quantified_term}
 use Rattle.forcing_laws.proofs.NamedSheaves.{part_itself}
 use Rattle.internal_interp.proofs.TermFacts.{type_served}
 use Rattle.internal_interp.proofs.Subterms as parts
@@ -69,6 +71,32 @@ module _ (w : World) (maps : List MapTy) (i : Interpreter) (Γ : List Ty) (conte
   equated_known t u left right k l r =
       let p = parts.eq_parts w maps i Γ context U (Eq t u) t u refl k in
       (p.common, record { known = p.first; left_stands = l w maps Γ p.common p.first; right_stands = r w maps Γ p.common p.second }, p.formula)
+
+  -- where one side of an equation is a formula, both are of truth values
+  formulas_of : (t u : Term) (p : parts.AreEqualParts w maps i Γ context U t u) → p.common ≡ Omega → parts.AreFormulaParts w maps i Γ context U t u
+  formulas_of t u p e = record {
+    first = subst (λ T. IsKnown w maps i Γ T context t) e p.first;
+    second = subst (λ T. IsKnown w maps i Γ T context u) e p.second;
+    formula = p.formula;
+  }
+
+  pub left_formula : (t u : Term) (left : List (List Bool)) → IsKnown w maps i Γ U context (Eq t u) → HasMeaning i context t (Formula left) → parts.AreFormulaParts w maps i Γ context U t u
+  left_formula t u left k l = let p = parts.eq_parts w maps i Γ context U (Eq t u) t u refl k in formulas_of t u p (l w maps Γ p.common p.first).formula
+
+  pub right_formula : (t u : Term) (right : List (List Bool)) → IsKnown w maps i Γ U context (Eq t u) → HasMeaning i context u (Formula right) → parts.AreFormulaParts w maps i Γ context U t u
+  right_formula t u right k r = let p = parts.eq_parts w maps i Γ context U (Eq t u) t u refl k in formulas_of t u p (r w maps Γ p.common p.second).formula
+
+  pub left_equivalent : (t u : Term) (left right : List (List Bool)) (other : Interpreted) → IsKnown w maps i Γ U context (Eq t u) → HasMeaning i context t (Formula left) → HasMeaning i context u other →
+      (IsKnown w maps i Γ Omega context u → IsInterpreted w Γ Omega u other → IsTruthTable w Γ (forces w u) right) → AreEquivalent w maps i Γ context t u left right × (U ≡ Omega)
+  left_equivalent t u left right other k l r stands =
+      let p = left_formula t u left k l in
+      (record { first = p.first; second = p.second; left_stands = (l w maps Γ Omega p.first).stands; right_stands = stands p.second (r w maps Γ Omega p.second) }, p.formula)
+
+  pub right_equivalent : (t u : Term) (left right : List (List Bool)) (other : Interpreted) → IsKnown w maps i Γ U context (Eq t u) → HasMeaning i context t other → HasMeaning i context u (Formula right) →
+      (IsKnown w maps i Γ Omega context t → IsInterpreted w Γ Omega t other → IsTruthTable w Γ (forces w t) left) → AreEquivalent w maps i Γ context t u left right × (U ≡ Omega)
+  right_equivalent t u left right other k l r stands =
+      let p = right_formula t u right k r in
+      (record { first = p.first; second = p.second; left_stands = stands p.first (l w maps Γ Omega p.first); right_stands = (r w maps Γ Omega p.second).stands }, p.formula)
 
   pub member_known : (t u : Term) (element set : Valued) → IsKnown w maps i Γ U context (Member t u) → HasValues i context t element → HasValues i context u set →
       (T : Ty) × AreMember w maps i Γ T context t u element set × (U ≡ Omega)

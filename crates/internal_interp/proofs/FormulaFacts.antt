@@ -9,7 +9,7 @@ use Rattle.internal_interp.specs.declared.context.Context.{Context}
 use Rattle.internal_interp.specs.declared.interpreter.Interpreter.{Interpreter}
 use Rattle.internal_interp.specs.Contexts.{widths_of}
 use Rattle.internal_interp.specs.Known.{IsScope}
-use Rattle.internal_interp.specs.Formulas.{AreJoined, IsNegatedFrom, IsBoundFrom}
+use Rattle.internal_interp.specs.Formulas.{AreJoined, AreEquivalent, IsNegatedFrom, IsBoundFrom}
 
 module _ (w : World) (maps : List MapTy) (i : Interpreter) (Γ : List Ty) (context : Context) (sizes : List ℕ) (e : sizes ≡ get_or context.sizes 0 []) where
   context_is : IsScope w maps i Γ context → IsContext w Γ i.stages.now i.store.now context.place sizes
@@ -18,6 +18,14 @@ module _ (w : World) (maps : List MapTy) (i : Interpreter) (Γ : List Ty) (conte
   pub joined_formulas : (t u : Term) (left right : List (List Bool)) → AreJoined w maps i Γ context t u left right →
       AreFormulas w Γ (forces w t) (forces w u) i.stages.now i.store.now context.place sizes left right
   joined_formulas t u left right h = record {
+    known = context_is h.first.scope;
+    left_stands = h.left_stands;
+    right_stands = h.right_stands;
+  }
+
+  pub equivalent_formulas : (t u : Term) (left right : List (List Bool)) → AreEquivalent w maps i Γ context t u left right →
+      AreFormulas w Γ (forces w t) (forces w u) i.stages.now i.store.now context.place sizes left right
+  equivalent_formulas t u left right h = record {
     known = context_is h.first.scope;
     left_stands = h.left_stands;
     right_stands = h.right_stands;

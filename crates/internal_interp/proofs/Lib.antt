@@ -4,6 +4,7 @@ pub mod TermFacts
 pub mod Bindings
 pub mod Subterms
 pub mod FormulaFacts
+pub mod EquationFacts
 pub mod ReadingFacts
 pub mod AbstractionFacts
 pub mod Unbound

@@ -15,6 +15,12 @@ module _ (w : World) (maps : List MapTy) (i : Interpreter) (Γ : List Ty) (conte
     pub left_stands : IsTruthTable w Γ (forces w t) left
     pub right_stands : IsTruthTable w Γ (forces w u) right
 
+  pub record AreEquivalent (t u : Term) (left right : List (List Bool)) : Type 0 where
+    pub first : IsKnown w maps i Γ Omega context t
+    pub second : IsKnown w maps i Γ Omega context u
+    pub left_stands : IsTruthTable w Γ (forces w t) left
+    pub right_stands : IsTruthTable w Γ (forces w u) right
+
   pub record IsNegatedFrom (t : Term) (truths : List (List Bool)) : Type 0 where
     pub part : IsKnown w maps i Γ Omega context t
     pub stands : IsTruthTable w Γ (forces w t) truths

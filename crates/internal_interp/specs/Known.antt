@@ -15,7 +15,7 @@ use Rattle.omega_object.specs.declared.omega.Omega.{Omega as OmegaTables}
 use Rattle.omega_object.specs.Tables.{IsOmegaOn}
 use Rattle.truth_tables.specs.Standing.{IsNumberTable, IsTruthTable}
 use Rattle.formula_tables.specs.Formulas.{IsContext}
-use Rattle.formula_tables.specs.Stages.{AreStages}
+use Rattle.site_stages.specs.Stages.{AreStages}
 use Rattle.term_tables.specs.Parts.{AreImages}
 use Rattle.internal_interp.specs.declared.context.Context.{Context}
 use Rattle.internal_interp.specs.declared.interpreter.Interpreter.{Interpreter}
@@ -29,7 +29,7 @@ module _ (w : World) (maps : List MapTy) (i : Interpreter) where
   pub record Knows : Type 0 where
     pub lawful : IsWorld w maps
     pub site : w.site ≡ i.site.now
-    pub stages : AreStages w i.stages.now
+    pub stages : AreStages w.site i.stages.now
     pub faithful : IsFaithful w.site w.functors i.store.now
     pub omega : (Ω : Bor OmegaTables) → i.omega ≡ Some Ω → IsOmegaOn w.site Ω.now
     pub world_maps : length w.maps ≡ length maps

@@ -7,7 +7,8 @@ ghost use Rattle.topos_model.specs.formulas.Forcing.{World};
 ghost use Rattle.internal_interp.specs.Known.{IsKnown};
 ghost use Rattle.internal_interp.specs.Interpretations.{HasValues, HasTruths, HasMeaning, connected_term};
 
-use crate::formulas::{joined, negated};
+use crate::conversions::truths_of;
+use crate::formulas::{equivalence, joined, negated};
 use crate::images::image;
 use crate::products::{first, pair, second};
 use crate::readings::{applied, equated, member};
@@ -89,19 +90,32 @@ pub(crate) fn applied_term(
     Ok(Interpreted::Value(applied(alloc, interpreter, context, function, argument)?))
 }
 
-/// The equation of two terms.
+/// The equation of two terms. Where one of them is a formula, both are of truth values, and no value needs a number.
 pub(crate) fn equation(
     alloc: Global,
     interpreter: &Interpreter<'_>,
     context: &Context,
-    left: Valued,
-    right: Valued,
+    left: Interpreted,
+    right: Interpreted,
 ) -> Result<Interpreted, NoMemory>
     requires objects { length (get_or context.now.sizes 0 []) < 2 ^ 32 }
-    requires known { (w : World) × (maps : List MapTy) × (Γ : List Ty) × (U : Ty) × (t u : Term) × IsKnown w maps interpreter.now Γ U context.now (Eq t u) × HasValues interpreter.now context.now t left × HasValues interpreter.now context.now u right }
-    ensures { IfOk result (λ whole. (t u : Term) → HasValues interpreter.now context.now t left → HasValues interpreter.now context.now u right → HasMeaning interpreter.now context.now (Eq t u) whole) }
+    requires known { (w : World) × (maps : List MapTy) × (Γ : List Ty) × (U : Ty) × (t u : Term) × IsKnown w maps interpreter.now Γ U context.now (Eq t u) × HasMeaning interpreter.now context.now t left × HasMeaning interpreter.now context.now u right }
+    ensures { IfOk result (λ whole. (t u : Term) → HasMeaning interpreter.now context.now t left → HasMeaning interpreter.now context.now u right → HasMeaning interpreter.now context.now (Eq t u) whole) }
 {
-    Ok(Interpreted::Formula(equated(alloc, interpreter, context, left, right)?))
+    let truths = match left {
+        Interpreted::Formula(left) => {
+            let right = truths_of(alloc, interpreter, context, right)?;
+            equivalence(alloc, interpreter, context, left, right)?
+        }
+        Interpreted::Value(value) => match right {
+            Interpreted::Formula(right) => {
+                let left = truths_of(alloc, interpreter, context, Interpreted::Value(value))?;
+                equivalence(alloc, interpreter, context, left, right)?
+            }
+            Interpreted::Value(right) => equated(alloc, interpreter, context, value, right)?,
+        },
+    };
+    Ok(Interpreted::Formula(truths))
 }
 
 /// The membership of a term in another.

@@ -1,16 +1,16 @@
 // Formulas by the tables of their parts.
 ghost use Rattle.std.specs.Prelude.{◌≡◌, ◌<◌, ◌^◌, ◌∷◌, [], List, length, get_or, IfOk};
 ghost use Rattle.topos_model.specs.declared.ty.Ty.{Ty};
-ghost use Rattle.topos_model.specs.declared.term.Term.{Term};
+ghost use Rattle.topos_model.specs.declared.term.Term.{Term, Eq};
 ghost use Rattle.topos_model.specs.declared.context.MapTy.{MapTy};
 ghost use Rattle.topos_model.specs.formulas.Forcing.{World, forces, not_forced};
 ghost use Rattle.truth_tables.specs.Standing.{IsTruthTable};
 ghost use Rattle.formula_tables.specs.Formulas.{connected_forced, quantified_forced};
-ghost use Rattle.internal_interp.specs.Formulas.{AreJoined, IsNegatedFrom, IsBoundFrom};
+ghost use Rattle.internal_interp.specs.Formulas.{AreJoined, AreEquivalent, IsNegatedFrom, IsBoundFrom};
 
 use crate::widths::widths;
 use crate::{Context, Interpreter};
-use formula_tables::{connect, negate, quantified};
+use formula_tables::{connect, equivalent, negate, quantified};
 use std::alloc::Global;
 use topos_model::{NoMemory, Ty};
 use truth_tables::{Connective, Quantifier, Truths};
@@ -31,6 +31,29 @@ pub(crate) fn joined(
     connect(
         alloc,
         connective,
+        interpreter.stages,
+        interpreter.store,
+        context.place,
+        context.tuples(),
+        &left,
+        &right,
+    )
+}
+
+/// Where two formulas are equal as truth values: where they are forced along the same arrows.
+pub(crate) fn equivalence(
+    alloc: Global,
+    interpreter: &Interpreter<'_>,
+    context: &Context,
+    left: Truths,
+    right: Truths,
+) -> Result<Truths, NoMemory>
+    requires objects { length (get_or context.now.sizes 0 []) < 2 ^ 32 }
+    requires known { (w : World) × (maps : List MapTy) × (Γ : List Ty) × (t u : Term) × AreEquivalent w maps interpreter.now Γ context.now t u left right }
+    ensures { IfOk result (λ truths. (w : World) (maps : List MapTy) (Γ : List Ty) (t u : Term) → AreEquivalent w maps interpreter.now Γ context.now t u left right → IsTruthTable w Γ (forces w (Eq t u)) truths) }
+{
+    equivalent(
+        alloc,
         interpreter.stages,
         interpreter.store,
         context.place,

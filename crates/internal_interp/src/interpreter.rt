@@ -1,7 +1,7 @@
 // What terms are interpreted over.
-use formula_tables::Stages;
 use functor_store::FunctorStore;
 use omega_object::Omega;
+use site_stages::Stages;
 use topologies::Site;
 use topos_model::{MapTable, Ty};
 use truth_tables::{Numbers, Truths};

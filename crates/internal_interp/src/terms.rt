@@ -60,7 +60,7 @@ pub fn interpret_term(
         Term::Lam(ty, body) => function_of(alloc, interpreter, context, ty, body),
         Term::Compr(ty, body) => set_of(alloc, interpreter, context, ty, body),
         Term::Eq(left, right) => {
-            let (left, right) = values(alloc, interpreter, context, left, right)?;
+            let (left, right) = meanings(alloc, interpreter, context, left, right)?;
             equation(alloc, interpreter, context, left, right)
         }
         Term::Member(element, set) => {
@@ -149,6 +149,26 @@ fn truths_at(
 {
     let interpreted = interpret_term(alloc, interpreter, context, term.get())?;
     truths_of(alloc, interpreter, context, interpreted)
+}
+
+/// What two terms are interpreted by.
+#[cycle(terms)]
+fn meanings(
+    alloc: Global,
+    interpreter: &Interpreter<'_>,
+    context: &Context,
+    left: &Boxed<Term>,
+    right: &Boxed<Term>,
+) -> Result<(Interpreted, Interpreted), NoMemory>
+    requires objects { length (get_or context.now.sizes 0 []) < 2 ^ 32 }
+    requires left { (w : World) × (maps : List MapTy) × (Γ : List Ty) × (U : Ty) × IsKnown w maps interpreter.now Γ U context.now left.now }
+    requires right { (w : World) × (maps : List MapTy) × (Γ : List Ty) × (U : Ty) × IsKnown w maps interpreter.now Γ U context.now right.now }
+    ensures left { IfOk result (λ both. HasMeaning interpreter.now context.now left.now both.0) }
+    ensures right { IfOk result (λ both. HasMeaning interpreter.now context.now right.now both.1) }
+{
+    let first = interpret_term(alloc, interpreter, context, left.get())?;
+    let second = interpret_term(alloc, interpreter, context, right.get())?;
+    Ok((first, second))
 }
 
 /// The values of two terms.

@@ -12,6 +12,7 @@ ghost use Rattle.topos_model.specs.statements.Cells.{presheaf_cells};
 ghost use Rattle.sealed_functors.specs.Rows.{IsOverExactly};
 ghost use Rattle.omega_object.specs.declared.omega.Omega.{Omega as TruthValues};
 ghost use Rattle.omega_object.specs.Tables.{IsOmegaOn};
+ghost use Rattle.site_stages.specs.Stages.{AreStages};
 ghost use Rattle.sealed_world.specs.SealedWorlds.{bare_world, world_cells, cells_with, with_presheaf, with_charges, IsGrown, IsGrownBy, IsStoreOf};
 
 use crate::ends::ends_of;
@@ -23,6 +24,7 @@ use named_functors::seal_functor;
 use omega_object::Omega;
 use presheaf_core::Functor;
 use sheaf_test::{SheafVerdict, test};
+use site_stages::Stages;
 use std::alloc::Global;
 use std::marker::Model;
 use topologies::Site;
@@ -32,6 +34,8 @@ use topos_model::{NoMemory, Row, Ty};
 #[derive(Drop)]
 pub struct SealedWorld {
     site: Site,
+    // Laid out once, since each formula is read along them.
+    stages: Stages,
     functors: Row<Functor>,
     store: FunctorStore,
     // Where they are sealed.
@@ -41,6 +45,7 @@ pub struct SealedWorld {
 }
 
 impl Model for SealedWorld {
+    ghost use Rattle.site_stages.specs.Stages.{AreStages};
     ghost use Rattle.sealed_world.specs.SealedWorlds.{CountedWorld, IsInStore, HasTruthValues, AreSheaves, seen, types_in};
 
     ghost Value = { CountedWorld };
@@ -52,7 +57,7 @@ impl Model for SealedWorld {
 
     ghost view = { λ w. seen (record { site = w.site; functors = w.functors; store = w.store }) };
 
-    ghost invariant = { λ w. IsInStore (record { site = w.site; functors = w.functors; store = w.store }) × HasTruthValues w.site (types_in w.store) w.truth_values × AreSheaves w.site w.functors w.sheaves };
+    ghost invariant = { λ w. IsInStore (record { site = w.site; functors = w.functors; store = w.store }) × HasTruthValues w.site (types_in w.store) w.truth_values × AreSheaves w.site w.functors w.sheaves × AreStages w.site w.stages };
 }
 
 impl SealedWorld {
@@ -62,10 +67,12 @@ impl SealedWorld {
         ensures value { IfOk result (λ world. world ≡ bare_world site budget) }
     {
         site.cat().laws();
+        let stages = Stages::of(alloc, &site)?;
         let ends = ends_of(alloc, site.cat())?;
         let store = FunctorStore::new(alloc, site.cat().objects(), ends, budget)?;
         Ok(SealedWorld {
             site,
+            stages,
             functors: Row::new(alloc),
             store,
             truth_values: None,
@@ -78,6 +85,13 @@ impl SealedWorld {
         ensures { result.now ≡ self.now.site }
     {
         &self.site
+    }
+
+    /// The arrows into each object of the site.
+    pub fn stages(&self) -> &Stages
+        ensures stages { AreStages self.now.site result.now }
+    {
+        &self.stages
     }
 
     /// The presheaves, by their numbers.

@@ -14,7 +14,6 @@ use crate::Subobject;
 use crate::term_maps::one_type;
 use fin_category::Cat;
 use formula_answers::interpreter;
-use formula_tables::Stages;
 use functor_store::{FunctorId, FunctorStore};
 use internal_interp::{formula_truths, scope};
 use presheaf_core::Functor;
@@ -159,8 +158,7 @@ pub fn subobject(
     requires formula { IsFormulaOver world.now maps.now (ty.now ∷ []) formula.now }
     ensures subobject { IfOk result (IsSubobject world.now maps.now ty.now formula.now) }
 {
-    let stages = Stages::of(alloc, world.site())?;
-    let interpreter = interpreter(world, maps, &stages);
+    let interpreter = interpreter(world, maps);
     let types = one_type(alloc, ty)?;
     let context = scope(alloc, &interpreter, types.as_slice())?;
     let truths = formula_truths(alloc, &interpreter, &context, formula)?;

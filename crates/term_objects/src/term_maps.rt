@@ -6,7 +6,6 @@ ghost use Rattle.formula_answers.specs.Formulas.{IsTermOver};
 ghost use Rattle.term_objects.specs.TermObjects.{IsTermMap};
 
 use formula_answers::interpreter;
-use formula_tables::Stages;
 use internal_interp::{scope, term_values};
 use sealed_world::SealedWorld;
 use std::alloc::Global;
@@ -34,8 +33,7 @@ pub fn term_map(
     requires range { is_term_in_range (length world.now.functors) (length maps.now) term.now ≡ true }
     ensures map { IfOk result (λ map. (U : Ty) → IsTermOver world.now maps.now (ty.now ∷ []) term.now U → IsTermMap world.now maps.now ty.now term.now U map) }
 {
-    let stages = Stages::of(alloc, world.site())?;
-    let interpreter = interpreter(world, maps, &stages);
+    let interpreter = interpreter(world, maps);
     let types = one_type(alloc, ty)?;
     let context = scope(alloc, &interpreter, types.as_slice())?;
     let values = term_values(alloc, &interpreter, &context, term)?;

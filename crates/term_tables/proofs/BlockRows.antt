@@ -18,8 +18,8 @@ use Rattle.truth_tables.specs.Tables.{number, block, IsOver}
 use Rattle.truth_tables.specs.Abstraction.{behind, row_of, HasBlocks}
 use Rattle.truth_tables.specs.Standing.{counts, tuple_at}
 use Rattle.truth_tables.proofs.Standing.{counts_long, counts_at}
-use Rattle.formula_tables.specs.declared.stages.Stages.{Stages}
-use Rattle.formula_tables.specs.Stages.{arrow_at}
+use Rattle.site_stages.specs.declared.stages.Stages.{Stages}
+use Rattle.site_stages.specs.Stages.{arrow_at}
 use Rattle.formula_tables.specs.Formulas.{IsContext}
 use Rattle.formula_tables.proofs.AlongArrows.{tuples_are, sources_at, source_at, domain_low}
 use Rattle.term_tables.specs.Parts.{AreWidths}
@@ -69,7 +69,7 @@ module _ (w : World) (Γ : List Ty) (S : Ty) (stages : Stages) (store : Store) (
   restrictions = restrictions_at R c i
 
   abbrev at : ℕ → ℕ
-  at j = source w (arrow_at w c j)
+  at j = source w (arrow_at w.site c j)
 
   -- the number of the restriction along the arrow at place j
   abbrev pub to : ℕ → ℕ
@@ -79,10 +79,10 @@ module _ (w : World) (Γ : List Ty) (S : Ty) (stages : Stages) (store : Store) (
     d_low : at j < w.site.category.objects
     d_low = domain_low w Γ stages store context sizes known c j low there
 
-    pub to_within : to j < length (tuples w Γ (source w (arrow_at w c j)))
+    pub to_within : to j < length (tuples w Γ (source w (arrow_at w.site c j)))
     to_within = (tuples_are w Γ stages store context sizes known).within c i j low inside there
 
-    pub to_is : tuple_at w Γ (source w (arrow_at w c j)) (to j) ≡ along w (arrow_at w c j) (tuple_at w Γ c i)
+    pub to_is : tuple_at w Γ (source w (arrow_at w.site c j)) (to j) ≡ along w (arrow_at w.site c j) (tuple_at w Γ c i)
     to_is = (tuples_are w Γ stages store context sizes known).restricted c i j low inside there
 
     is_source : get_or sources j 0 ≡ at j
@@ -114,12 +114,12 @@ module _ (w : World) (Γ : List Ty) (S : Ty) (stages : Stages) (store : Store) (
         let m = length (values w S (at j)) in
         get_or-take m (drop (to j * m) (get_or body (at j) [])) x 0 low' ∙ get_or-drop (to j * m) (get_or body (at j) []) x 0
 
-    pub number_within : (x : ℕ) → x < length (values w S (source w (arrow_at w c j))) → to j * length (values w S (source w (arrow_at w c j))) + x < length (tuples w (S ∷ Γ) (source w (arrow_at w c j)))
+    pub number_within : (x : ℕ) → x < length (values w S (source w (arrow_at w.site c j))) → to j * length (values w S (source w (arrow_at w.site c j))) + x < length (tuples w (S ∷ Γ) (source w (arrow_at w.site c j)))
     number_within x low' = subst (λ n. to j * length (values w S (at j)) + x < n) (sym (more_tuples w Γ S (at j))) (block_ends (to j) (length (tuples w Γ (at j))) (length (values w S (at j))) x to_within low')
 
-    pub number_tuple : (x : ℕ) → x < length (values w S (source w (arrow_at w c j))) →
-        tuple_at w (S ∷ Γ) (source w (arrow_at w c j)) (to j * length (values w S (source w (arrow_at w c j))) + x)
-        ≡ (S, get_or (values w S (source w (arrow_at w c j))) x Star) ∷ along w (arrow_at w c j) (tuple_at w Γ c i)
+    pub number_tuple : (x : ℕ) → x < length (values w S (source w (arrow_at w.site c j))) →
+        tuple_at w (S ∷ Γ) (source w (arrow_at w.site c j)) (to j * length (values w S (source w (arrow_at w.site c j))) + x)
+        ≡ (S, get_or (values w S (source w (arrow_at w.site c j))) x Star) ∷ along w (arrow_at w.site c j) (tuple_at w Γ c i)
     number_tuple x low' = more_at w Γ S (at j) (to j) x to_within low' ∙ ap (λ a. (S, get_or (values w S (at j)) x Star) ∷ a) to_is
 
   arrows_long : length sources ≡ length (onto w c)
@@ -144,12 +144,12 @@ module _ (w : World) (Γ : List Ty) (S : Ty) (stages : Stages) (store : Store) (
   at_arrow f = map (λ v. record { arrow = f; val = v }) (values w S (source w f))
 
   -- the places, arrow by arrow
-  places_by_number : places w.site (values w S) c ≡ flat_map (λ j. at_arrow (arrow_at w c j)) (range_with_len 0 (length sources))
+  places_by_number : places w.site (values w S) c ≡ flat_map (λ j. at_arrow (arrow_at w.site c j)) (range_with_len 0 (length sources))
   unfolding places
   places_by_number =
-      ap (flat_map at_arrow) (fill_by_all (arrow_at w c) (onto w c) (length (onto w c)) 0 refl (λ j there. refl))
-      ∙ joined_map (arrow_at w c) (range_with_len 0 (length (onto w c)))
-      ∙ ap (λ n. flat_map (λ j. at_arrow (arrow_at w c j)) (range_with_len 0 n)) (sym arrows_long)
+      ap (flat_map at_arrow) (fill_by_all (arrow_at w.site c) (onto w c) (length (onto w c)) 0 refl (λ j there. refl))
+      ∙ joined_map (arrow_at w.site c) (range_with_len 0 (length (onto w c)))
+      ∙ ap (λ n. flat_map (λ j. at_arrow (arrow_at w.site c j)) (range_with_len 0 n)) (sym arrows_long)
     where
       joined_map : (h : ℕ → ℕ) (js : List ℕ) → flat_map at_arrow (map h js) ≡ flat_map (λ j. at_arrow (h j)) js
       joined_map h [] = refl
@@ -157,16 +157,16 @@ module _ (w : World) (Γ : List Ty) (S : Ty) (stages : Stages) (store : Store) (
 
   -- the row has its relation to the places where the numbers of the body have it
   pub row_against : (P : Entry → ℕ → Type 0) →
-      ((j x : ℕ) → j < length (onto w c) → x < length (values w S (source w (arrow_at w c j))) →
-      P (entry (arrow_at w c j) (get_or (values w S (source w (arrow_at w c j))) x Star)) (number body (source w (arrow_at w c j)) (to j * length (values w S (source w (arrow_at w c j))) + x))) →
+      ((j x : ℕ) → j < length (onto w c) → x < length (values w S (source w (arrow_at w.site c j))) →
+      P (entry (arrow_at w.site c j) (get_or (values w S (source w (arrow_at w.site c j))) x Star)) (number body (source w (arrow_at w.site c j)) (to j * length (values w S (source w (arrow_at w.site c j))) + x))) →
       Matches P (places w.site (values w S) c) (row_of (get_or stages.sources c []) (restrictions_at (functor_at store.sealed context) c i) widths body)
   row_against P each =
       subst (λ l. Matches P l (row_of sources restrictions widths body)) (sym places_by_number)
-      (matches_joined P (λ j. at_arrow (arrow_at w c j)) (behind sources restrictions widths body) (range_with_len 0 (length sources)) (λ j m.
+      (matches_joined P (λ j. at_arrow (arrow_at w.site c j)) (behind sources restrictions widths body) (range_with_len 0 (length sources)) (λ j m.
       let r = In-range_from 0 (length sources) j m in
       let there : j < length (onto w c) = omega (arith, r.1, arrows_long) in
-      subst (Matches P (at_arrow (arrow_at w c j))) (sym (behind_is j there))
-      (matches_from P (at_arrow (arrow_at w c j)) (here j there) (entry 0 Star) 0 (length-map (values w S (at j)) _ ∙ sym (here_long j there)) (λ x low'.
-      let x' : x < length (values w S (at j)) = omega (arith, low', length-map (values w S (at j)) (λ v. entry (arrow_at w c j) v)) in
-      subst (λ e. P e (get_or (here j there) x 0)) (sym (mapped_at (λ v. entry (arrow_at w c j) v) (values w S (at j)) x Star (entry 0 Star) x'))
-      (subst (P (entry (arrow_at w c j) (get_or (values w S (at j)) x Star))) (sym (here_at j there x x')) (each j x there x'))))))
+      subst (Matches P (at_arrow (arrow_at w.site c j))) (sym (behind_is j there))
+      (matches_from P (at_arrow (arrow_at w.site c j)) (here j there) (entry 0 Star) 0 (length-map (values w S (at j)) _ ∙ sym (here_long j there)) (λ x low'.
+      let x' : x < length (values w S (at j)) = omega (arith, low', length-map (values w S (at j)) (λ v. entry (arrow_at w.site c j) v)) in
+      subst (λ e. P e (get_or (here j there) x 0)) (sym (mapped_at (λ v. entry (arrow_at w.site c j) v) (values w S (at j)) x Star (entry 0 Star) x'))
+      (subst (P (entry (arrow_at w.site c j) (get_or (values w S (at j)) x Star))) (sym (here_at j there x x')) (each j x there x'))))))

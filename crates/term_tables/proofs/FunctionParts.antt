@@ -24,8 +24,8 @@ use Rattle.truth_tables.specs.Tables.{number, IsOver}
 use Rattle.truth_tables.specs.Abstraction.{row_of, IsNumbered, IsThere, AreThere, AreNumbered}
 use Rattle.truth_tables.specs.Standing.{tuple_at, IsNumberTable}
 use Rattle.truth_tables.proofs.Standing.{object_in, tuple_in}
-use Rattle.formula_tables.specs.declared.stages.Stages.{Stages}
-use Rattle.formula_tables.specs.Stages.{arrow_at}
+use Rattle.site_stages.specs.declared.stages.Stages.{Stages}
+use Rattle.site_stages.specs.Stages.{arrow_at}
 use Rattle.formula_tables.proofs.AlongArrows.{sizes_long, size_at_object, domain_low}
 use Rattle.term_tables.specs.Parts.{IsFunctionBody}
 use Rattle.term_tables.proofs.OneNumber.{one_number}
@@ -78,7 +78,7 @@ module _ (w : World) (Γ : List Ty) (S T : Ty) (t : Term) (stages : Stages) (sto
     made : Matches (IsValueAt w.site w.functors T v) (ps c) row
     made =
         row_against w Γ S stages store context sizes h.known widths h.variable body h.stands.over c i low inside (IsValueAt w.site w.functors T v) (λ j x there x_low.
-        let f = arrow_at w c j in
+        let f = arrow_at w.site c j in
         let m = to w Γ S stages store context sizes h.known widths h.variable body h.stands.over c i low inside j * length (values w S (source w f)) + x in
         let stands = h.stands.stands (source w f) m (domain_low w Γ stages store context sizes h.known c j low there) (number_within w Γ S stages store context sizes h.known widths h.variable body h.stands.over c i low inside j there x x_low) in
         subst (Stands w.site w.functors T (source w f) (number body (source w f) m))

@@ -23,8 +23,8 @@ use Rattle.truth_tables.specs.Tables.{table, bit, number, IsOver}
 use Rattle.truth_tables.specs.Abstraction.{row_of, IsNumbered, IsThere, AreThere, AreNumbered}
 use Rattle.truth_tables.specs.Standing.{counts, tuple_at, IsNumberTable}
 use Rattle.truth_tables.proofs.Standing.{object_in, tuple_in, table_over, entry_at, counts_long, counts_at}
-use Rattle.formula_tables.specs.declared.stages.Stages.{Stages}
-use Rattle.formula_tables.specs.Stages.{arrow_at}
+use Rattle.site_stages.specs.declared.stages.Stages.{Stages}
+use Rattle.site_stages.specs.Stages.{arrow_at}
 use Rattle.formula_tables.proofs.AlongArrows.{sizes_long, size_at_object, domain_low}
 use Rattle.term_tables.specs.Parts.{IsSubsetBody}
 use Rattle.term_tables.proofs.SealedSizes.{elements_of}
@@ -95,7 +95,7 @@ module _ (w : World) (Γ : List Ty) (T : Ty) (φ : Term) (stages : Stages) (stor
     made : Matches (λ e k. k ≡ bit_of v e) (ps c) row
     made =
         row_against w Γ T stages store context sizes h.known widths h.variable digits over c i low inside (λ e k. k ≡ bit_of v e) (λ j x there x_low.
-        let f = arrow_at w c j in
+        let f = arrow_at w.site c j in
         let m = to w Γ T stages store context sizes h.known widths h.variable digits over c i low inside j * length (values w T (source w f)) + x in
         digit_at (source w f) m (domain_low w Γ stages store context sizes h.known c j low there) (number_within w Γ T stages store context sizes h.known widths h.variable digits over c i low inside j there x x_low)
         ∙ ap (λ b. cond b 1 0)

@@ -23,8 +23,8 @@ use Rattle.fin_category.proofs.ArrowLists.{Rises-into}
 use Rattle.forcing_laws.specs.ForcingLaws.{forcing_sieve}
 use Rattle.topos_model.proofs.ArrowsInto.{In-into_from}
 use Rattle.functor_store.specs.Store.{Store, Functor, functor_at, restrictions_at}
-use Rattle.formula_tables.specs.declared.stages.Stages.{Stages}
-use Rattle.formula_tables.specs.Stages.{arrow_at}
+use Rattle.site_stages.specs.declared.stages.Stages.{Stages}
+use Rattle.site_stages.specs.Stages.{arrow_at}
 use Rattle.formula_tables.proofs.AlongArrows.{tuples_are, source_at, sources_at, domain_low, restricted, sizes_long}
 use Rattle.omega_object.specs.Tables.{rows_at, IsOmegaOn}
 use Rattle.omega_object.proofs.Precedence.{mapped_at}
@@ -102,12 +102,12 @@ module _ (w : World) (Γ : List Ty) (φ : Term) (k : Category) (Ω : Omega) (sta
     member : In (tuples w Γ c) a
     member = In_at (tuples w Γ c) i [] inside
 
-    read_at : (j : ℕ) → j < length (onto w c) → truth_along truths (get_or stages.sources c []) (restrictions_at R c i) j ≡ forces w φ (source w (arrow_at w c j)) (along w (arrow_at w c j) a)
+    read_at : (j : ℕ) → j < length (onto w c) → truth_along truths (get_or stages.sources c []) (restrictions_at R c i) j ≡ forces w φ (source w (arrow_at w.site c j)) (along w (arrow_at w.site c j) a)
     read_at j there =
         let t = tuples_are w Γ stages store context sizes h.known in
         ap (λ d. bit truths d (get_or (restrictions_at R c i) j 0)) (source_at w Γ stages store context sizes h.known c j low there)
-        ∙ h.stands.truths (source w (arrow_at w c j)) (get_or (restrictions_at R c i) j 0) (domain_low w Γ stages store context sizes h.known c j low there) (t.within c i j low inside there)
-        ∙ ap (forces w φ (source w (arrow_at w c j))) (t.restricted c i j low inside there)
+        ∙ h.stands.truths (source w (arrow_at w.site c j)) (get_or (restrictions_at R c i) j 0) (domain_low w Γ stages store context sizes h.known c j low there) (t.within c i j low inside there)
+        ∙ ap (forces w φ (source w (arrow_at w.site c j))) (t.restricted c i j low inside there)
 
     few : (f : ℕ) → In (onto w c) f → f < 512
     few f m = let g = (In-into_from w.site.category c f m).0 in let n = h.truth_values.few in omega (arith, g, n)
@@ -147,7 +147,7 @@ module _ (w : World) (Γ : List Ty) (φ : Term) (k : Category) (Ω : Omega) (sta
             entries = λ j there'.
                 let there : j < length (onto w c) = omega (arith, there', e) in
                 subst (λ d. IsEntry truths d (get_or (restrictions_at R c i) j 0)) (sym (source_at w Γ stages store context sizes h.known c j low there))
-                (has_entry w Γ truths (source w (arrow_at w c j)) (get_or (restrictions_at R c i) j 0) h.stands.over (domain_low w Γ stages store context sizes h.known c j low there) (t.within c i j low inside there));
+                (has_entry w Γ truths (source w (arrow_at w.site c j)) (get_or (restrictions_at R c i) j 0) h.stands.over (domain_low w Γ stages store context sizes h.known c j low there) (t.within c i j low inside there));
           };
         }
 

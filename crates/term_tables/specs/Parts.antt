@@ -18,7 +18,7 @@ use Rattle.omega_object.specs.Tables.{IsOmegaOn}
 use Rattle.finite_lists.specs.Members.{In}
 use Rattle.truth_tables.specs.Tables.{number}
 use Rattle.truth_tables.specs.Standing.{counts, IsNumberTable, IsTruthTable}
-use Rattle.formula_tables.specs.declared.stages.Stages.{Stages}
+use Rattle.site_stages.specs.declared.stages.Stages.{Stages}
 use Rattle.formula_tables.specs.Formulas.{IsContext}
 
 -- the functor id is that of the type

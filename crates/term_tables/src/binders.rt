@@ -6,8 +6,8 @@ ghost use Rattle.topos_model.specs.formulas.Forcing.{World, value};
 ghost use Rattle.truth_tables.specs.Standing.{IsNumberTable};
 ghost use Rattle.term_tables.specs.Parts.{IsFunctionBody, IsSubsetBody};
 
-use formula_tables::Stages;
 use functor_store::{FunctorId, FunctorStore};
+use site_stages::Stages;
 use std::alloc::Global;
 use topos_model::NoMemory;
 use truth_tables::{Numbers, Truths, abstractions, indicators};

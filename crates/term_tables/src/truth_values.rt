@@ -16,9 +16,9 @@ ghost use Rattle.term_tables.specs.TruthValues.{true_arrows, IsTruthValue, AreRe
 ghost use Rattle.term_tables.specs.Parts.{AreTruthValues, AreForced};
 
 use fin_category::{ArrowMask, Cat};
-use formula_tables::Stages;
 use functor_store::{FunctorId, FunctorStore};
 use omega_object::Omega;
+use site_stages::Stages;
 use std::alloc::Global;
 use topos_model::{NoMemory, Row};
 use truth_tables::{Numbers, Truths, bit, number, row_at, table};

@@ -1,5 +1,6 @@
 // Connectives, and equality.
 ghost use Rattle.std.specs.Prelude.{◌≡◌, ◌<◌, ◌^◌, length, get_or, eqb, cond, false, IfOk};
+ghost use Rattle.topos_model.specs.certificates.CertificateNodes.{same_truth};
 ghost use Rattle.truth_tables.specs.Tables.{table, bit, number, connected, IsOver};
 
 use crate::tables::{bit, number, table};
@@ -45,6 +46,21 @@ pub fn combine(
         sizes,
         |c, i| connective.connects(bit(left, c, i), bit(right, c, i)),
     )
+}
+
+/// Where two tables of truth values agree.
+pub fn agreeing(
+    alloc: Global,
+    sizes: &[u32],
+    left: &Truths,
+    right: &Truths,
+) -> Result<Truths, NoMemory>
+    requires objects { length sizes.now < 2 ^ 32 }
+    requires left { IsOver sizes.now left.now }
+    requires right { IsOver sizes.now right.now }
+    ensures { IfOk result (λ truths. truths ≡ table sizes.now (λ c i. same_truth (bit left.now c i) (bit right.now c i))) }
+{
+    table(alloc, sizes, |c, i| bit(left, c, i) == bit(right, c, i))
 }
 
 /// Where two tables of numbers agree.

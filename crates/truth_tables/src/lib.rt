@@ -12,7 +12,7 @@ mod variables;
 
 pub use abstraction::{abstractions, element_number};
 pub use arrows::everywhere;
-pub use connectives::{Connective, combine, constant, equal, indicators};
+pub use connectives::{Connective, agreeing, combine, constant, equal, indicators};
 pub use entries::{images, members, values};
 pub use quantifiers::{Quantifier, quantify};
 pub use tables::{Numbers, Truths, bit, number, row_at, table};

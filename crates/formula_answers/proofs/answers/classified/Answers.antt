@@ -9,7 +9,7 @@ use Rattle.formula_answers.proofs.ServedFormulas.{product_held, known, few_objec
 use Rattle.formula_answers.proofs.answers.classified.Goals as goal
 
 pub interpreter-interpreter-requires : goal.interpreter-interpreter-requires
-interpreter-interpreter-requires c = record { maps = c.requires.formula.maps; stages = c.in_ok-stages.ensures (world_of c.args.world.now c.args.maps.now) (sym c.site.ensures) }
+interpreter-interpreter-requires c = record { maps = c.requires.formula.maps }
 
 pub scope-requires-clause-held : goal.scope-requires-clause-held
 scope-requires-clause-held c = product_held c.args.world.now c.args.maps.now c.interpreter-interpreter.result c.interpreter-interpreter.ensures.serves (reverse c.args.types.now) c.args.formula.now Omega c.requires.formula

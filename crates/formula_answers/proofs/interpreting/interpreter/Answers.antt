@@ -14,5 +14,5 @@ returns c =
           (subst IsCategory same c.laws.ensures.lawful)
           (subst (λ (k : Category). length k.ends ≤ max_arrows) same c.laws.ensures.few)
           (subst IsTopology (c.top-top.ensures.site ∙ c.site-site.ensures) c.top-top.ensures.topology.topology)
-          c.requires.stages c.store.ensures.store c.truth_values.ensures.lawful c.truth_values.ensures.counted c.requires.maps refl;
+          c.stages.ensures.stages c.store.ensures.store c.truth_values.ensures.lawful c.truth_values.ensures.counted c.requires.maps refl;
     }

@@ -39,8 +39,8 @@ interpret_term-values-requires-in-Eval t c =
     let p = eval_parts w maps c.args.interpreter.now Γ c.args.context.now U c.args.term.now c.in-Eval.function c.in-Eval.argument c.in-Eval.is k in
     (search (rules, the_lemmas), (c.requires.objects, ((w, maps, Γ, Fun p.domain U, p.function), (w, maps, Γ, p.domain, p.argument))))
 
-pub interpret_term-values-requires-in-Eq : goal.interpret_term-values-requires-in-Eq
-interpret_term-values-requires-in-Eq t c =
+pub interpret_term-meanings-requires : goal.interpret_term-meanings-requires
+interpret_term-meanings-requires t c =
     let (w, maps, Γ, U, k) = c.requires.known in
     let p = eq_parts w maps c.args.interpreter.now Γ c.args.context.now U c.args.term.now c.in-Eq.left c.in-Eq.right c.in-Eq.is k in
     (search (rules, the_lemmas), (c.requires.objects, ((w, maps, Γ, p.common, p.first), (w, maps, Γ, p.common, p.second))))
@@ -111,6 +111,12 @@ interpret_term-returns-in_ok-left-in-Or t c =
 pub interpret_term-returns-in_ok-left-in-Implies : goal.interpret_term-returns-in_ok-left-in-Implies
 interpret_term-returns-in_ok-left-in-Implies t c =
     IfOk-weaker c.connected-in-Implies.result _ _ (λ whole is. subst (λ x. HasMeaning c.args.interpreter.now c.args.context.now x whole) (sym c.in-Implies.is) (is c.in-Implies.left c.in-Implies.right c.in_ok-left-in-Implies.ensures.left c.in_ok-left-in-Implies.ensures.right)) c.connected-in-Implies.ensures
+
+pub meanings-returns-clause-left : goal.meanings-returns-clause-left
+meanings-returns-clause-left t c = subst (λ x. HasMeaning c.args.interpreter.now c.args.context.now x c.in_ok-first.first) c.get.ensures c.in_ok-first.ensures
+
+pub meanings-returns-clause-right : goal.meanings-returns-clause-right
+meanings-returns-clause-right t c = subst (λ x. HasMeaning c.args.interpreter.now c.args.context.now x c.in_ok-second.second) c.get-2.ensures c.in_ok-second.ensures
 
 pub value_at-value_of-requires-clause-known : goal.value_at-value_of-requires-clause-known
 value_at-value_of-requires-clause-known t c =

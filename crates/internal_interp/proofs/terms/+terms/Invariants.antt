@@ -11,6 +11,9 @@ decreases-value_at l = 3 * size-Term l.term.now + 1
 abbrev pub decreases-truths_at : goal.decreases-truths_at
 decreases-truths_at l = 3 * size-Term l.term.now + 1
 
+abbrev pub decreases-meanings : goal.decreases-meanings
+decreases-meanings l = 3 * max (size-Term l.left.now) (size-Term l.right.now) + 1
+
 abbrev pub decreases-values : goal.decreases-values
 decreases-values l = 3 * max (size-Term l.left.now) (size-Term l.right.now) + 2
 

@@ -10,9 +10,6 @@ use Rattle.term_objects.proofs.OneVariable.{held_one, scope_one, few_one, known_
 use Rattle.term_objects.proofs.SubobjectTables.{satisfies, true_elements, part_satisfies}
 use Rattle.term_objects.proofs.subobjects.subobject.Goals as goal
 
-pub interpreter-interpreter-requires-clause-stages : goal.interpreter-interpreter-requires-clause-stages
-interpreter-interpreter-requires-clause-stages c = c.in_ok-stages.ensures (world_of c.args.world.now c.args.maps.now) (sym c.site.ensures)
-
 pub scope-requires-clause-held : goal.scope-requires-clause-held
 scope-requires-clause-held c =
     held_one c.args.world.now c.args.maps.now c.interpreter-interpreter.result c.interpreter-interpreter.ensures.serves c.args.ty.now c.args.formula.now Omega c.requires.formula c.as_slice.result.now

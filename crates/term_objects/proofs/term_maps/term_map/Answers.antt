@@ -7,9 +7,6 @@ use Rattle.term_objects.proofs.OneVariable.{held_one, few_one, known_one}
 use Rattle.term_objects.proofs.TermNumbers.{term_map_is}
 use Rattle.term_objects.proofs.term_maps.term_map.Goals as goal
 
-pub interpreter-interpreter-requires-clause-stages : goal.interpreter-interpreter-requires-clause-stages
-interpreter-interpreter-requires-clause-stages c = c.in_ok-stages.ensures (world_of c.args.world.now c.args.maps.now) (sym c.site.ensures)
-
 pub scope-requires-clause-held : goal.scope-requires-clause-held
 scope-requires-clause-held c =
     let (U, h) = c.requires.known in

@@ -17,6 +17,7 @@ invariant_of-self c =
       charged_or_not _ _ v c.args.cells c.charge.new.self c.charge.result c.charge.ensures.ok c.charge.ensures.over c.self.invariant.0,
       values_kept w.site (types_in w.store) (types_in c.charge.new.self) w.truth_values (λ i. subst (λ l. In l Omega) (charged_types _ _ v c.args.cells c.charge.new.self c.charge.result c.charge.ensures.ok c.charge.ensures.over) i) c.self.invariant.1,
       c.self.invariant.2,
+      c.self.invariant.3,
     )
 
 pub returns-clause-ok : goal.returns-clause-ok

@@ -53,6 +53,7 @@ invariant_of-self-in_default c =
       given,
       values_kept w.site (types_in w.store) (types_in c.seal_functor.new.store) w.truth_values (λ i. subst (λ l. In l Omega) (ap (λ (v : CountedWorld). v.types) same) i) c.self.invariant.1,
       still_sheaves w.site w.functors c.args.functor c.push.new.self w.sheaves c.in_ok-push.ensures.ok c.self.invariant.2,
+      c.self.invariant.3,
     )
 
 pub returns-clause-ok : goal.returns-clause-ok

@@ -53,6 +53,7 @@ invariant_of-self c =
       one_world v Omega c.need.new.store (was_added Omega w.store c.need.new.store c.in-Ok.ensures.needed free) c.self.invariant.0 free (c.need.ensures.faithful w.functors c.self.invariant.0.faithful),
       values_there w.site (types_in c.need.new.store) c.in-Ok.values c.in-Ok.ensures.values,
       c.self.invariant.2,
+      c.self.invariant.3,
     )
 
 pub returns-in-Ok-clause-ok : goal.returns-in-Ok-clause-ok

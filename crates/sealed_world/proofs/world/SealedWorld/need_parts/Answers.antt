@@ -28,6 +28,7 @@ invariant_of-self c =
       values_kept w.site (types_in w.store) (types_in c.need.new.store) w.truth_values
           (was_there v (parts T) c.need.new.store c.self.invariant.0 c.need.ensures.added (subst (λ (u : CountedWorld). In (parts T) Omega → In u.types Omega) (sym c.self.view_is) c.requires.omega)) c.self.invariant.1,
       c.self.invariant.2,
+      c.self.invariant.3,
     )
 
 pub invariant_of-self-2 : goal.invariant_of-self-2
@@ -39,6 +40,7 @@ invariant_of-self-2 c =
       values_kept w.site (types_in w.store) (types_in c.need.new.store) w.truth_values
           (was_there v (parts T) c.need.new.store c.self.invariant.0 c.need.ensures.added (subst (λ (u : CountedWorld). In (parts T) Omega → In u.types Omega) (sym c.self.view_is) c.requires.omega)) c.self.invariant.1,
       c.self.invariant.2,
+      c.self.invariant.3,
     )
 
 pub returns-in-Err-clause-err : goal.returns-in-Err-clause-err

@@ -23,6 +23,7 @@ invariant_of-result c =
       subst IsInStore (sym is) (bare_in_store s c.args.budget),
       no_values s (types_in c.in_ok-store.store) (ap (λ (v : CountedWorld). v.types) (ap seen is ∙ bare_seen s c.args.budget)),
       none_marked s c.new-2.result c.new-3.result c.new-3.ensures,
+      c.in_ok-stages.ensures,
     )
 
 pub returns : goal.returns

@@ -1,5 +1,0 @@
-use Rattle.truth_tables.proofs.Rows.{row-more}
-use Rattle.formula_tables.proofs.stages.all_sources.Goals as goal
-
-pub loop-c-preserved : goal.loop-c-preserved
-loop-c-preserved c = row-more _ c.loop-c.c c.loop-c.rows _ c.in_ok-sources_into.field-0 c.loop-c.invariant c.in_ok-push.ensures.ok c.in_ok-sources_into.ensures

@@ -1,6 +1,0 @@
-use Rattle.std.proofs.Common.{◌≡◌, map, take}
-use Rattle.topos_model.specs.categories.Category.{dom}
-use Rattle.formula_tables.proofs.stages.sources_into.Given as goal
-
-abbrev pub invariant-loop-f : goal.invariant-loop-f
-invariant-loop-f l = l.row ≡ map (dom l.cat) (take l.f-index l.f-items)
