@@ -17,7 +17,7 @@ use Rattle.functor_store.specs.Store.{Functor, Store, place, functor_at, size_at
 use Rattle.functor_store.specs.Faithful.{HasElements, IsFaithful, Stands}
 use Rattle.sieve_table.proofs.SieveMembers.{Distinct-into}
 use Rattle.type_laws.proofs.Presheaves.{Distinct-elements}
-use Rattle.type_rows.proofs.ArrowPlaces.{place_is}
+use Rattle.type_rows.proofs.ArrowPlaces.{one_place, arrow_place}
 use Rattle.forcing_laws.specs.Tuples.{paired, PairsTuples}
 use Rattle.forcing_laws.proofs.TupleLists.{tuples_are_product}
 use Rattle.forcing_laws.proofs.Tuples.{tuples_restrict}
@@ -30,14 +30,6 @@ stands_at : {A : Type 0} (xs : List A) (x d : A) → In xs x → (n : ℕ) × (n
 stands_at [] x d i = absurd i
 stands_at (y ∷ xs) x d (inl e) = (0, omega arith, e)
 stands_at (y ∷ xs) x d (inr i) = let (n, low, e) = stands_at xs x d i in (suc n, omega (arith, low), e)
-
--- and in one place alone
-one_place : {A : Type 0} (xs : List A) (d : A) (m n : ℕ) → Distinct xs → m < length xs → n < length xs → get_or xs m d ≡ get_or xs n d → m ≡ n
-one_place [] d m n h low low' e = absurd (omega (arith, low))
-one_place (x ∷ xs) d zero zero h low low' e = refl
-one_place (x ∷ xs) d zero (suc n) h low low' e = absurd (h.0 (subst (In xs) (sym e) (In_at xs n d (omega (arith, low')))))
-one_place (x ∷ xs) d (suc m) zero h low low' e = absurd (h.0 (subst (In xs) e (In_at xs m d (omega (arith, low)))))
-one_place (x ∷ xs) d (suc m) (suc n) h low low' e = ap suc (one_place xs d m n h.1 (omega (arith, low)) (omega (arith, low')) e)
 
 module _ (w : World) (maps : List MapTy) (world : IsWorld w maps) (Γ : List Ty) where
   abbrev k : Category
@@ -76,14 +68,6 @@ module _ (w : World) (maps : List MapTy) (world : IsWorld w maps) (Γ : List Ty)
     into_at : (c j : ℕ) → j < length (onto w c) → IsInto w.site.category c (arrow_at w.site c j)
     into_at c j low = In-into_from k c (arrow_at w.site c j) (In_at (into k c) j 0 low)
 
-    place_at : (c j : ℕ) → j < length (onto w c) → place w.site.category.ends (arrow_at w.site c j) ≡ j
-    place_at c j low =
-        let i = into_at c j low in
-        let p = place_is k (arrow_at w.site c j) i.0 in
-        let q : (place k.ends (arrow_at w.site c j) < length (into k c)) × (get_or (into k c) (place k.ends (arrow_at w.site c j)) 0 ≡ arrow_at w.site c j) =
-        subst (λ d. (place k.ends (arrow_at w.site c j) < length (into k d)) × (get_or (into k d) (place k.ends (arrow_at w.site c j)) 0 ≡ arrow_at w.site c j)) i.1 p in
-        one_place (into k c) 0 (place k.ends (arrow_at w.site c j)) j (Distinct-into k c) q.0 low q.1
-
     -- the restriction along the arrow at place j stands for the restricted tuple
     stands : (c i j : ℕ) → c < w.site.category.objects → i < length (tuples w Γ c) → j < length (onto w c) →
         Stands w.site w.functors (product Γ) (source w (arrow_at w.site c j)) (get_or (restrictions_at (functor_at store.sealed id) c i) j 0) (restr w.site w.functors (product Γ) (arrow_at w.site c j) (element c i))
@@ -91,7 +75,7 @@ module _ (w : World) (maps : List MapTy) (world : IsWorld w maps) (Γ : List Ty)
         let f = arrow_at w.site c j in
         let a = into_at c j there in
         let read : restriction_along k.ends F f i ≡ get_or (restrictions_at F c i) j 0 =
-        ap (λ d. get_or (restrictions_at F d i) (place k.ends f) 0) a.1 ∙ ap (λ p. get_or (restrictions_at F c i) p 0) (place_at c j there) in
+        ap (λ d. get_or (restrictions_at F d i) (place k.ends f) 0) a.1 ∙ ap (λ p. get_or (restrictions_at F c i) p 0) (arrow_place k c j there) in
         subst (λ n. Stands w.site w.functors (product Γ) (source w f) n (restr w.site w.functors (product Γ) f (element c i))) read
         (subst (λ d. Stands w.site w.functors (product Γ) (source w f) (restriction_along k.ends F f i) (restr w.site w.functors (product Γ) f (element d i))) a.1
         (has.restrictions f i a.0 (subst (λ d. i < size_at F d) (sym a.1) (omega (arith, inside, size c low)))))

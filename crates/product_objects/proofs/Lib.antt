@@ -1,2 +1,3 @@
 pub mod ProductElements
+pub mod PairNumbers
 pub mod OneElements

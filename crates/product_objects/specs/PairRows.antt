@@ -1,11 +1,15 @@
 -- Pairs of elements, by their numbers.
-use Rattle.std.specs.Prelude.{◌≡◌, ℕ, ◌+◌, ◌*◌, ◌^◌, ◌<◌, List, [], length, map, sum}
+use Rattle.std.specs.Prelude.{◌≡◌, ℕ, ◌+◌, ◌*◌, ◌^◌, ◌<◌, List, [], length, get_or, map, sum}
 use Rattle.std.specs.List.{flat_map, range_with_len}
 use Rattle.topos_model.specs.categories.Category.{Category, into, dom}
 use Rattle.functor_store.specs.Store.{Store}
 use Rattle.sealed_functors.specs.declared.rows.ElementRows.{ElementRows}
 use Rattle.place_closures.specs.Pairs.{AreRestricted}
 use Rattle.sealed_types.specs.Sealed.{sizes_in, restrictions_in}
+
+-- the number of a pair that restricts along the arrow at a place, from those of its parts and how many second parts there are
+abbrev pub pair_at : List ℕ → List ℕ → List ℕ → ℕ → ℕ
+pair_at widths xs ys j = get_or xs j 0 * get_or widths j 0 + get_or ys j 0
 
 -- elements by their numbers: how many there are at each object, and their restrictions
 module _ (k : Category) (size size' : ℕ → ℕ) (move move' : ℕ → ℕ → ℕ) where

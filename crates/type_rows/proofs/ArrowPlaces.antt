@@ -1,11 +1,13 @@
 -- An arrow stands at its place among those into its codomain, and an entry of a part stands at its place in the whole.
-use Rattle.std.proofs.Common.{◌≡◌, ℕ, zero, suc, ◌+◌, ◌-◌, ◌*◌, ◌<◌, ◌≤◌, Bool, true, cond, List, ◌∷◌, ◌++◌, length, get_or, take, drop, filter, eqb, refl, sym, ap, subst, ◌∙◌, arith}
+use Rattle.std.proofs.Common.{◌≡◌, ℕ, zero, suc, ◌+◌, ◌-◌, ◌*◌, ◌<◌, ◌≤◌, Bool, true, cond, List, [], ◌∷◌, ◌++◌, length, get_or, take, drop, filter, eqb, refl, sym, ap, subst, ◌∙◌, arith}
 use Rattle.std.specs.List.{range_with_len}
 use Rattle.std.proofs.lemmas.Bool.{eq-eqb}
 use Rattle.std.proofs.lemmas.List.{length-append, get_or-take, get_or-drop, get_or-append-add, length-take-le}
 use Rattle.std.proofs.lemmas.List.Elements.{filter-append}
-use Rattle.finite_lists.proofs.Lists.{filter_same}
-use Rattle.finite_lists.proofs.DistinctLists.{In-range_from}
+use Rattle.finite_lists.specs.Members.{In, Distinct}
+use Rattle.finite_lists.proofs.Lists.{filter_same, In_at}
+use Rattle.finite_lists.proofs.DistinctLists.{In-range_from, Distinct-filter, Distinct-range}
+use Rattle.topos_model.proofs.ArrowsInto.{In-into_from}
 use Rattle.topos_model.specs.categories.Category.{Category, into, cod}
 use Rattle.topos_model.specs.Laws.{IsCategory}
 use Rattle.functor_store.specs.Store as store
@@ -53,6 +55,23 @@ pub part_entry : (w : ℕ) (xs : List ℕ) (k i : ℕ) → i < w → get_or (par
 part_entry w xs k i low =
     let e : k * w + w - k * w ≡ w = omega arith in
     ap (λ n. get_or (take n (drop (k * w) xs)) i 0) e ∙ get_or-take w (drop (k * w) xs) i 0 low ∙ get_or-drop (k * w) xs i 0
+
+-- a member of a list without repetitions stands in one place
+pub one_place : {A : Type 0} (xs : List A) (d : A) (m n : ℕ) → Distinct xs → m < length xs → n < length xs → get_or xs m d ≡ get_or xs n d → m ≡ n
+one_place [] d m n h low low' e = absurd (omega (arith, low))
+one_place (x ∷ xs) d zero zero h low low' e = refl
+one_place (x ∷ xs) d zero (suc n) h low low' e = absurd (h.0 (subst (In xs) (sym e) (In_at xs n d (omega (arith, low')))))
+one_place (x ∷ xs) d (suc m) zero h low low' e = absurd (h.0 (subst (In xs) e (In_at xs m d (omega (arith, low)))))
+one_place (x ∷ xs) d (suc m) (suc n) h low low' e = ap suc (one_place xs d m n h.1 (omega (arith, low)) (omega (arith, low')) e)
+
+-- the arrow at a place among those into an object has this place
+pub arrow_place : (k : Category) (c j : ℕ) → j < length (into k c) → place k.ends (get_or (into k c) j 0) ≡ j
+unfolding into
+arrow_place k c j low =
+    let f = get_or (into k c) j 0 in
+    let i = In-into_from k c f (In_at (into k c) j 0 low) in
+    let p = subst (λ d. (place k.ends f < length (into k d)) × (get_or (into k d) (place k.ends f) 0 ≡ f)) i.1 (place_is k f i.0) in
+    one_place (into k c) 0 (place k.ends f) j (Distinct-filter (λ g. eqb (cod k g) c) (range_with_len 0 (length k.ends)) (Distinct-range 0 (length k.ends))) p.0 low p.1
 
 -- each object has an identity
 pub few_objects : (k : Category) → IsCategory k → k.objects ≤ length k.ends

@@ -1,9 +1,7 @@
-use Rattle.std.proofs.Common.{◌≡◌, ◌++◌, map, take}
-use Rattle.topos_model.specs.categories.Category.{dom}
-use Rattle.sealed_types.specs.Sealed.{sizes_in, restrictions_in}
-use Rattle.product_objects.specs.PairRows.{pair_number}
+use Rattle.std.proofs.Common.{◌≡◌, ◌++◌, map}
+use Rattle.std.specs.List.{range_with_len}
+use Rattle.product_objects.specs.PairRows.{pair_at}
 use Rattle.product_objects.proofs.pairs.push_pair.Given as goal
 
-abbrev pub invariant-loop-f : goal.invariant-loop-f
-invariant-loop-f l =
-    l.out ≡ l.fn.out ++ map (λ f. pair_number l.cat (sizes_in l.store l.s) (sizes_in l.store l.t) (restrictions_in l.store l.s) (restrictions_in l.store l.t) (dom l.cat f) (restrictions_in l.store l.s f l.x) (restrictions_in l.store l.t f l.y)) (take l.f-index l.f-items)
+abbrev pub invariant-loop-j : goal.invariant-loop-j
+invariant-loop-j l = l.out ≡ l.fn.out ++ map (pair_at l.widths l.first l.second) (range_with_len 0 l.j)
