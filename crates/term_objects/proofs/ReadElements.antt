@@ -1,5 +1,5 @@
 -- The elements of a sealed type can be read.
-use Rattle.std.proofs.Common.{◌≡◌, ℕ, ◌<◌, List, length, Some, MatchOption, refl, sym, subst}
+use Rattle.std.proofs.Common.{◌≡◌, ℕ, ◌<◌, length, Some, MatchOption, refl, sym, subst}
 use denote.Bor.{Bor}
 use Rattle.finite_lists.specs.Members.{In}
 use Rattle.topos_model.specs.declared.ty.Ty.{Ty, Base, Omega}

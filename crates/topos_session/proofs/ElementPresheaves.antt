@@ -1,5 +1,5 @@
 -- Presheaves of elements, declared behind the others: those of a type, and those that satisfy a formula.
-use Rattle.std.proofs.Common.{◌≡◌, ℕ, ◌<◌, true, List, [], ◌∷◌, ◌++◌, map, length, get_or, refl, sym, ap, ap₂, subst, ◌∙◌, inl, inr, arith}
+use Rattle.std.proofs.Common.{◌≡◌, ℕ, ◌<◌, true, List, [], ◌∷◌, ◌++◌, map, length, get_or, refl, sym, ap, ap₂, subst, ◌∙◌, inl, inr}
 use Rattle.std.specs.List.{All, flat_map, range_with_len}
 use Rattle.std.proofs.lemmas.Bool.{ltb-true}
 use Rattle.std.proofs.lemmas.List.{get_or_default}
@@ -26,13 +26,12 @@ use Rattle.truth_tables.specs.Tables.{row}
 use Rattle.sealed_world.specs.SealedWorlds.{CountedWorld, HasTypes}
 use Rattle.sealed_world.specs.SealedWorlds as world
 use Rattle.formula_answers.specs.MapTables.{ends_of, no_table, IsMapTable, AreMapTables}
-use Rattle.formula_answers.specs.Formulas.{world_of, IsFormulaOver}
+use Rattle.formula_answers.specs.Formulas.{world_of}
 use Rattle.term_objects.specs.declared.made.Subobject.{Subobject}
 use Rattle.term_objects.specs.TermObjects.{IsSubobject}
 use Rattle.term_objects.proofs.TypePresheaves.{type_numbered, numbers_table, numbers_pairs, elements_table, elements_pairs, rows_long, rows_within, rows_values}
 use Rattle.term_objects.proofs.SubobjectTables.{subobject_table, subobject_pairs, inclusion_values}
 use Rattle.topos_session.specs.declared.declarations.Declarations.{Declarations}
-use Rattle.topos_session.specs.declared.elements.Numbered.{Numbered}
 use Rattle.topos_session.specs.Functors.{none}
 use Rattle.topos_session.specs.Declarations.{declared_map, AreLawful}
 use Rattle.topos_session.specs.Elements.{type_elements, type_maps, part_elements, part_maps, numbers_shape, elements_shape, AreElements}

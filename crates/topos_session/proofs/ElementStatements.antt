@@ -1,5 +1,5 @@
 -- The statements that declare elements of types: what they count, answer and are stopped by.
-use Rattle.std.proofs.Common.{◌≡◌, ℕ, ◌+◌, ◌<◌, ◌≤◌, true, List, [], ◌∷◌, ◌++◌, map, length, Option, Some, None, Result, Ok, Err, IfOk, OnOk, refl, sym, ap, subst, ◌∙◌, length-append, append-nil, arith}
+use Rattle.std.proofs.Common.{◌≡◌, ℕ, ◌≤◌, List, [], ◌∷◌, length, Option, Some, Result, Ok, Err, IfOk, OnOk, refl, sym, ap, subst, ◌∙◌, length-append, append-nil, arith}
 use Rattle.topos_model.specs.declared.ty.Ty.{Ty}
 use Rattle.topos_model.specs.declared.term.Term.{Term}
 use Rattle.topos_model.specs.declared.stmt.Stmt.{Stmt}
@@ -12,7 +12,7 @@ use Rattle.topos_model.specs.types.Types.{Presheaf}
 use Rattle.topos_model.specs.Laws.{IsFunctor}
 use Rattle.topos_model.specs.statements.Needs.{parts, needs, types_of, terms_of}
 use Rattle.topos_model.specs.statements.Declarations.{DeclaredMap}
-use Rattle.topos_model.specs.statements.Answers.{shape_of, map_shape}
+use Rattle.topos_model.specs.statements.Answers.{shape_of}
 use Rattle.topos_model.specs.declared.context.MapTable.{MapTable}
 use Rattle.formula_answers.specs.MapTables.{ends_of}
 use Rattle.sealed_world.specs.SealedWorlds.{CountedWorld, world_cells, with_presheaf}

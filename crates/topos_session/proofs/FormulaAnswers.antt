@@ -1,5 +1,5 @@
 -- Statements about a formula: why they are refused, what they count, and that they answer.
-use Rattle.std.proofs.Common.{◌≡◌, ◌↔◌, ℕ, ◌-◌, ◌<◌, ◌≤◌, Bool, true, false, not, ◌&&◌, eqb, inl, inr, List, [], reverse, length, flat_map, is_none, Option, Some, None, Ok, Err, refl, sym, ap, subst, ◌∙◌, arith, drop, get_or, ap₂, ◌+◌, ◌∷◌}
+use Rattle.std.proofs.Common.{◌≡◌, ◌↔◌, ℕ, ◌<◌, ◌≤◌, Bool, true, false, not, ◌&&◌, inl, inr, List, [], reverse, length, flat_map, is_none, Option, Some, None, Ok, Err, refl, sym, ap, subst, ◌∙◌, arith, drop, get_or, ap₂, ◌+◌, ◌∷◌}
 use Rattle.std.proofs.lemmas.Bool.{cases_lt, cases_Bool, true≢false, eq-eqb, ne_eqb}
 use Rattle.std.proofs.lemmas.List.{append-nil}
 use Rattle.std.proofs.lemmas.List.FromFn.{length-range_with_len, get_or-range_with_len}
@@ -21,7 +21,6 @@ use Rattle.topos_model.specs.declared.answer.Answer.{Answer}
 use Rattle.topos_model.specs.declared.fault.Fault.{Fault}
 use Rattle.topos_model.specs.declared.fault.Fault.TheVariants.{NotBuilt, NotASheaf, Expected as ExpectedFault}
 use Rattle.topos_model.specs.categories.Category.{Category}
-use Rattle.topos_model.specs.types.Types.{Presheaf}
 use Rattle.topos_model.specs.types.SameType.{same_type}
 use Rattle.topos_model.specs.Laws.{IsCategory, IsTopology}
 use Rattle.topos_model.specs.formulas.Typing.{typed}
@@ -42,7 +41,7 @@ use Rattle.topos_session.specs.declared.stop.Stop.TheVariants as stop
 use Rattle.topos_session.specs.Ranges.{declares}
 use Rattle.topos_session.specs.Functors.{AreFunctors, functor_at}
 use Rattle.topos_session.specs.Declarations.{AreLawful}
-use Rattle.topos_session.specs.Statements.{no_sheaf_among, formula_refusal, formula_needs, refusal_over, AnswersOver, IsTypeStop, IsSheafStop, AreSealed, IsSealStop, AreNeedsSealed, IsTermSealed, IsNeedsStop, refusal_in_turn, IsFormulaSealed, IsFormulaStop, IsAnsweredOver, IsStoppedOver, by_types, type_stop, store_stop}
+use Rattle.topos_session.specs.Statements.{no_sheaf_among, formula_refusal, formula_needs, refusal_over, AnswersOver, IsTypeStop, IsSheafStop, AreSealed, IsSealStop, AreNeedsSealed, IsTermSealed, IsNeedsStop, refusal_in_turn, IsFormulaSealed, IsFormulaStop, IsAnsweredOver, IsStoppedOver, type_stop, store_stop}
 use Rattle.topos_session.proofs.FormulaStatements.{needs_sheaves}
 use Rattle.topos_session.proofs.SealedNeeds.{needs_stopped, lawful_then, answered}
 

@@ -48,7 +48,7 @@ use Rattle.topos_session.specs.Declarations.{declared_between, declared_map, wit
 use Rattle.topos_session.specs.Declarations as session
 use Rattle.topos_session.specs.Constructions.{is_construction, between, between_functors, from, to, table, fit}
 use Rattle.topos_session.specs.Elements.{type_elements, type_maps, part_elements, part_maps, MakesElements}
-use Rattle.topos_session.specs.Statements.{AnswersOver, Builds, Defines, refusal_in_turn, refusal_over}
+use Rattle.topos_session.specs.Statements.{AnswersOver, Builds, refusal_in_turn, refusal_over}
 use Rattle.topos_session.proofs.MadeFunctors.{named_is, first_of_three, maps_declared, equalizer_range, coequalizer_range, pullback_range, pushout_range, image_range}
 use Rattle.topos_session.proofs.LawfulDeclarations.{natural_between, declared_later}
 use Rattle.topos_session.proofs.DeclaredMaps.{ends_are, domain_is, codomain_is, table_is, no_sheaf_asked, build_refusal, sub_refusal, let_refusal, show_refusal, classify_refusal, valid_refusal, ends_known, world_is}

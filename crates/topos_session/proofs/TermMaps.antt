@@ -1,22 +1,19 @@
 -- Maps that terms define: why one is refused, and that it is declared.
-use Rattle.std.proofs.Common.{◌≡◌, ℕ, ◌+◌, ◌-◌, ◌<◌, ◌≤◌, true, false, ltb, List, [], ◌∷◌, ◌++◌, map, length, Option, Some, None, Ok, refl, sym, ap, subst, ◌∙◌, length-append, append-nil, arith}
+use Rattle.std.proofs.Common.{◌≡◌, ℕ, ◌<◌, ◌≤◌, true, List, [], ◌∷◌, length, Some, None, Ok, refl, subst, append-nil, arith}
 use Rattle.std.proofs.lemmas.Bool.{lt-ltb, le-ltb}
 use Rattle.topos_model.specs.declared.ty.Ty.{Ty, Base}
 use Rattle.topos_model.specs.declared.term.Term.{Term}
 use Rattle.topos_model.specs.declared.context.MapTable.{MapTable}
 use Rattle.topos_model.specs.declared.stmt.Stmt.TheVariants.{Let}
 use Rattle.topos_model.specs.declared.answer.Answer.TheVariants.{Quiet}
-use Rattle.topos_model.specs.declared.fault.Fault.{Fault}
 use Rattle.topos_model.specs.declared.fault.Fault.TheVariants.{TypeTooLarge}
 use Rattle.topos_model.specs.categories.Category.{Category}
-use Rattle.topos_model.specs.types.Types.{Presheaf}
 use Rattle.topos_model.specs.types.Nodes.{nodes}
 use Rattle.topos_model.specs.formulas.Typing.{typed}
 use Rattle.topos_model.specs.statements.Needs.{needs, types_of, terms_of}
 use Rattle.topos_model.specs.statements.StatementFaults.{term_fault}
-use Rattle.formula_answers.specs.MapTables.{ends_of, no_table, IsMapTable}
+use Rattle.formula_answers.specs.MapTables.{ends_of}
 use Rattle.term_objects.specs.TermObjects.{IsTermMap}
-use Rattle.sealed_world.specs.SealedWorlds.{CountedWorld, world_cells, cells_with, IsGrownBy}
 use Rattle.term_typing.specs.declared.fault.TypeFault.{TypeFault}
 use Rattle.term_typing.specs.declared.fault.TypeFault.TheVariants.{Expected, NotAFunction, NotAPower, NotAPair, NoMemory}
 use Rattle.term_typing.specs.Inferring.{IsFaultOf}
@@ -24,7 +21,7 @@ use Rattle.topos_session.specs.declared.declarations.Declarations.{Declarations}
 use Rattle.topos_session.specs.declared.stop.Stop.{Stop}
 use Rattle.topos_session.specs.declared.stop.Stop.TheVariants as stop
 use Rattle.topos_session.specs.Declarations.{AreLawful, with_map}
-use Rattle.topos_session.specs.Statements.{term_map_fault, map_needs, refusal_over, type_stop, IsMapTypeStop, IsTermSealed, IsMapSealed, IsMapStop, IsAnsweredOver, IsStoppedOver, by_types}
+use Rattle.topos_session.specs.Statements.{term_map_fault, map_needs, type_stop, IsMapTypeStop, IsMapSealed, IsMapStop, IsAnsweredOver, IsStoppedOver}
 use Rattle.topos_session.proofs.StatementForms.{declares-Let}
 use Rattle.topos_session.proofs.FormulaStatements.{names_declared}
 use Rattle.topos_session.proofs.FormulaAnswers.{fault_refuses}

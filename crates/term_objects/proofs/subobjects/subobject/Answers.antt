@@ -1,9 +1,7 @@
-use Rattle.std.proofs.Common.{[], ◌∷◌, sym, ap, subst, ◌∙◌}
+use Rattle.std.proofs.Common.{[], ◌∷◌, sym, ap, ◌∙◌}
 use Rattle.std.proofs.lemmas.Result.{IfOk-weaker}
 use Rattle.topos_model.specs.declared.ty.Ty.{Omega}
 use Rattle.topos_model.specs.topologies.Cover.{Site}
-use Rattle.topos_model.specs.formulas.Forcing.{forces}
-use Rattle.truth_tables.specs.Standing.{IsTruthTable}
 use Rattle.formula_answers.specs.MapTables.{ends_of}
 use Rattle.formula_answers.specs.Formulas.{world_of}
 use Rattle.term_objects.proofs.OneVariable.{held_one, scope_one, few_one, known_one}

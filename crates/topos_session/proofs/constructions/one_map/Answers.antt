@@ -1,4 +1,4 @@
-use Rattle.std.proofs.Common.{◌≡◌, ◌<◌, Some, None, length, refl, sym, subst, ◌∙◌}
+use Rattle.std.proofs.Common.{refl, sym, subst, ◌∙◌}
 use Rattle.formula_answers.specs.MapTables.{table_at}
 use Rattle.topos_session.specs.Constructions.{IsFunctorMap}
 use Rattle.topos_session.proofs.LargeConstructions.{some_map, no_map}

@@ -1,6 +1,6 @@
-use Rattle.std.proofs.Common.{◌≡◌, ◌<◌, ℕ, List, [], ◌∷◌, length, get_or, map, sym, ap, subst, ◌∙◌}
+use Rattle.std.proofs.Common.{◌≡◌, ◌<◌, ℕ, List, [], length, get_or, map, ap, subst, ◌∙◌}
 use Rattle.finite_lists.specs.Members.{In}
-use Rattle.topos_model.specs.declared.ty.Ty.{Base, Omega}
+use Rattle.topos_model.specs.declared.ty.Ty.{Omega}
 use Rattle.topos_model.specs.declared.value.Val.{Val, Star}
 use Rattle.topos_model.specs.declared.context.MapTable.{MapTable}
 use Rattle.topos_model.specs.Laws.{IsCategory}

@@ -1,11 +1,11 @@
-use Rattle.std.proofs.Common.{◌≡◌, ◌<◌, List, [], ◌∷◌, length, None, refl, sym, ap, subst, ◌∙◌}
+use Rattle.std.proofs.Common.{◌≡◌, List, [], ◌∷◌, length, None, refl, sym, ap, subst, ◌∙◌}
 use Rattle.std.proofs.lemmas.List.{append-nil}
 use Rattle.std.specs.List.{flat_map}
 use Rattle.finite_lists.specs.Members.{In}
 use Rattle.std.proofs.lemmas.Result.{err_from_is_err_and, on_ok_weaker, IfErr-weaker}
 use Rattle.topos_model.specs.declared.ty.Ty.{Ty, Base}
 use Rattle.topos_model.specs.statements.Needs.{parts}
-use Rattle.topos_session.specs.Statements.{AreSealed, IsSealStop, IsTypeUnsealed}
+use Rattle.topos_session.specs.Statements.{IsSealStop, IsTypeUnsealed}
 use Rattle.topos_session.proofs.LawfulDeclarations.{unchanged_kept}
 use Rattle.topos_session.proofs.FormulaAnswers.{other_topology, seal_stops, needs_sealed}
 use Rattle.topos_session.proofs.ElementPresheaves.{type_names}

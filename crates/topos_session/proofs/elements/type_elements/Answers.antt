@@ -1,5 +1,4 @@
-use Rattle.std.proofs.Common.{◌≡◌, ◌<◌, ℕ, List, [], ◌∷◌, length, get_or, map, sym, ap, subst, ◌∙◌}
-use Rattle.finite_lists.specs.Members.{In}
+use Rattle.std.proofs.Common.{◌≡◌, ℕ, List, [], length, get_or, map, sym, ap, subst, ◌∙◌}
 use Rattle.topos_model.specs.declared.ty.Ty.{Base}
 use Rattle.topos_model.specs.declared.value.Val.{Val, Star}
 use Rattle.topos_model.specs.declared.context.MapTable.{MapTable}

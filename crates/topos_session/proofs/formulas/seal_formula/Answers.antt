@@ -1,4 +1,4 @@
-use Rattle.std.proofs.Common.{◌≡◌, ◌<◌, length, reverse, refl, sym, ap, subst, ◌∙◌}
+use Rattle.std.proofs.Common.{length, reverse, refl, subst, ◌∙◌}
 use Rattle.std.specs.List.{flat_map}
 use Rattle.finite_lists.specs.Members.{In}
 use Rattle.std.proofs.lemmas.Result.{err_from_is_err_and, on_ok_weaker, IfErr-weaker}
@@ -7,10 +7,10 @@ use Rattle.topos_model.specs.Laws.{IsCategory, IsTopology}
 use Rattle.topos_model.specs.statements.Needs.{parts}
 use Rattle.topos_model.specs.statements.StatementFaults.{formula_fault}
 use Rattle.formula_answers.specs.MapTables.{ends_of}
-use Rattle.topos_session.specs.Statements.{formula_needs, AreSealed, IsSealStop, IsFormulaSealed, IsFormulaStop}
+use Rattle.topos_session.specs.Statements.{formula_needs, AreSealed, IsSealStop, IsFormulaStop}
 use Rattle.topos_session.proofs.LawfulDeclarations.{unchanged_kept}
 use Rattle.topos_session.proofs.FormulaStatements.{names_declared, context_range, formula_range}
-use Rattle.topos_session.proofs.FormulaAnswers.{other_topology, fault_refuses, type_stops, well_typed, seal_stops, term_sealed}
+use Rattle.topos_session.proofs.FormulaAnswers.{other_topology, type_stops, well_typed, seal_stops, term_sealed}
 use Rattle.topos_session.proofs.formulas.seal_formula.Goals as goal
 
 pub returns-then-under-ne0-clause-stop : goal.returns-then-under-ne0-clause-stop

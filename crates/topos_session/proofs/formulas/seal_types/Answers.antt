@@ -1,4 +1,4 @@
-use Rattle.std.proofs.Common.{◌≡◌, ◌<◌, length, None, Err, refl, sym, ap, subst, ◌∙◌, arith}
+use Rattle.std.proofs.Common.{◌<◌, length, Err, sym, ap, subst, arith}
 use Rattle.std.specs.List.{flat_map}
 use Rattle.topos_model.specs.statements.Needs.{parts}
 use Rattle.sealed_functors.specs.Rows.{IsOverExactly}

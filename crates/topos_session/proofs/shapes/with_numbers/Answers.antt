@@ -1,4 +1,4 @@
-use Rattle.std.proofs.Common.{◌≡◌, ap, ◌∙◌, get_or, arith}
+use Rattle.std.proofs.Common.{ap, ◌∙◌, get_or, arith}
 use Rattle.std.proofs.lemmas.List.{get_or_default}
 use Rattle.topos_model.specs.declared.value.Val.{Val, El, Star}
 use Rattle.topos_session.proofs.ShownFunctors.{next_pair, all_with_numbers}

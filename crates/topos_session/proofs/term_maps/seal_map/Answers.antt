@@ -1,11 +1,11 @@
-use Rattle.std.proofs.Common.{◌≡◌, ◌<◌, [], ◌∷◌, length, refl, sym, ap, subst, ◌∙◌}
+use Rattle.std.proofs.Common.{[], ◌∷◌, refl, subst, ◌∙◌}
 use Rattle.std.specs.List.{flat_map}
 use Rattle.finite_lists.specs.Members.{In}
 use Rattle.std.proofs.lemmas.Result.{err_from_is_err_and, on_ok_weaker, IfErr-weaker}
 use Rattle.topos_model.specs.declared.ty.Ty.{Base}
 use Rattle.topos_model.specs.Laws.{IsCategory, IsTopology}
 use Rattle.topos_model.specs.statements.Needs.{parts}
-use Rattle.topos_session.specs.Statements.{map_needs, term_map_fault, AreSealed, IsSealStop, IsMapSealed, IsMapStop}
+use Rattle.topos_session.specs.Statements.{map_needs, term_map_fault, AreSealed, IsSealStop, IsMapStop}
 use Rattle.topos_session.proofs.LawfulDeclarations.{unchanged_kept}
 use Rattle.topos_session.proofs.FormulaAnswers.{other_topology, seal_stops, term_sealed}
 use Rattle.topos_session.proofs.TermMaps.{map_type_stops, map_names}

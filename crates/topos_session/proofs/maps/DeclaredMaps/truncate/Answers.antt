@@ -1,4 +1,4 @@
-use Rattle.std.proofs.Common.{◌≡◌, map, take, sym, ap, ◌∙◌}
+use Rattle.std.proofs.Common.{take, sym, ap, ◌∙◌}
 use Rattle.std.proofs.lemmas.List.{take-map}
 use Rattle.formula_answers.specs.MapTables.{ends_of}
 use Rattle.topos_session.proofs.maps.DeclaredMaps.truncate.Goals as goal
